@@ -1,0 +1,64 @@
+-- A call on words by the first test of its table that applies: the law that the claims go by.
+use mathlib.Core.Path.{_≡_, refl, ap, ap₂, _∙_}
+use mathlib.Core.Logic.{_⊎_, inl, inr}
+use mathlib.Core.Bool.{Bool, true, false}
+use mathlib.Core.Option.{Option, none, some}
+use mathlib.Core.List.{List, [], _∷_, _++_}
+use Prim.Native.Nat.{ℕ}
+use native.Mathlib.Omega.{arith}
+use Rattle.rules.specs.Lists.{All}
+use Rattle.rules.specs.Calls.{Call, refused, Table, firstThatApplies, table, serve, decided, step}
+use Rattle.rules.specs.Words.{decode, sound, asked, resultOf, Exit, exit, exitOf, call, refusals}
+use Rattle.rules.specs.Claims.{Passes, FirstApplies}
+use Rattle.rules.proofs.ListLaws.{bool, not-false, passed}
+use Rattle.rules.proofs.Back.{encode-decode}
+
+-- refused by a number and no word changed, or served
+abbrev pub callBy : Option ℕ → List ℕ → Call (List ℕ) → Exit
+callBy (some n) ws c = exit (refused n) ws (resultOf c)
+callBy none ws c = exitOf (serve (decode ws) (asked c)) (resultOf c)
+
+pub call-by : (ws : List ℕ) (c : Call (List ℕ)) → call ws c ≡ callBy (firstThatApplies (refusals ws c)) ws c
+unfolding call step
+call-by ws c = go (bool (sound ws))
+  where
+    sound-by : sound ws ≡ true → (o : Option ℕ) → exitOf (decided o (serve (decode ws) (asked c)) (decode ws)) (resultOf c) ≡ callBy o ws c
+    sound-by h (some n) = rw (encode-decode ws h) refl
+    sound-by h none = refl
+
+    go : (sound ws ≡ true) ⊎ (sound ws ≡ false) → call ws c ≡ callBy (firstThatApplies (refusals ws c)) ws c
+    go (inl h) = rw h (sound-by h (firstThatApplies (table (decode ws) (asked c))))
+    go (inr h) = rw h refl
+
+-- a call that no test turns away
+module _ (ws : List ℕ) (c : Call (List ℕ)) (e : Passes ws c) where
+  pub passes-sound : sound ws ≡ true
+  passes-sound = not-false (sound ws) (passed (refusals ws c) e .0)
+
+  pub passes-table : firstThatApplies (table (decode ws) (asked c)) ≡ none
+  passes-table = rw passes-sound at e
+
+  pub passes-call : call ws c ≡ exitOf (serve (decode ws) (asked c)) (resultOf c)
+  passes-call = call-by ws c ∙ rw e refl
+
+-- ---- the first number of a table
+
+pub first-applies : (ts : Table) (n : ℕ) → firstThatApplies ts ≡ some n → FirstApplies ts n
+first-applies [] n e = let z : _≡_ {A = ℕ} 0 1 = cc in absurd (omega arith)
+first-applies (t ∷ ts) n e = go (bool (t .0)) (first-applies ts n)
+  where
+    go : (t .0 ≡ true) ⊎ (t .0 ≡ false) → (firstThatApplies ts ≡ some n → FirstApplies ts n) → FirstApplies (t ∷ ts) n
+    go (inl h) r =
+        let e′ : some (t .1) ≡ some n = rw h at e in
+        let q : t .1 ≡ n = cc in
+        record { before = []; after = ts; table = ap₂ (λ (b : Bool) (m : ℕ). (b, m) ∷ ts) h q; noneBefore = tt }
+    go (inr h) r =
+        let q : FirstApplies ts n = r (rw h at e) in
+        record { before = t ∷ (q .before); after = q .after; table = ap (λ x. t ∷ x) (q .table); noneBefore = (h, q .noneBefore) }
+
+pub applies-first : (ts : Table) (n : ℕ) → FirstApplies ts n → firstThatApplies ts ≡ some n
+applies-first ts n h = rw (h .table) (go (h .before) (h .noneBefore))
+  where
+    go : (before : Table) → All (λ t. t .0 ≡ false) before → firstThatApplies (before ++ ((true, n) ∷ (h .after))) ≡ some n
+    go [] k = refl
+    go (t ∷ ts) k = rw (k .0) (go ts (k .1))

@@ -1,0 +1,97 @@
+-- What the gift of a name changes: a word of the party that gains it, and nothing else.
+use mathlib.Core.Path.{_≡_, refl, sym, ap, _∙_, subst}
+use mathlib.Core.Logic.{_⊎_, inl, inr, _≢_}
+use mathlib.Core.Bool.{true}
+use mathlib.Core.List.{List, [], _∷_}
+use Prim.Native.Nat.{ℕ, _<_}
+use native.Mathlib.Omega.{arith}
+use native.Mathlib.Decide.{ℕ-discrete}
+use lib.ListN.{length, getD, set, length-set}
+use lib.Seq.{getD-set-same, getD-set-other}
+use Rattle.rules.specs.Names.{Name, partition, key, heldIn, withBit}
+use Rattle.rules.specs.State.{State, holds, give, giveAll}
+use Rattle.rules.proofs.BitLaws.{bit-set}
+
+give-entries : (who : ℕ) (n : Name) (s : State) → give who n s .entries ≡ s .entries
+unfolding give
+give-entries who (partition c) s = refl
+give-entries who (key k) s = refl
+
+pub giveAll-entries : (who : ℕ) (ns : List Name) (s : State) → giveAll who ns s .entries ≡ s .entries
+giveAll-entries who [] s = refl
+giveAll-entries who (n ∷ ns) s = giveAll-entries who ns (give who n s) ∙ give-entries who n s
+
+-- each party has its two words
+abbrev pub EightEach : State → Type 0
+EightEach s = (length (s .partitions) ≡ 8) × (length (s .keys) ≡ 8)
+
+give-eight : (who : ℕ) (n : Name) (s : State) → EightEach s → EightEach (give who n s)
+unfolding give
+give-eight who (partition c) s h = (length-set (s .partitions) who _ ∙ h .0, h .1)
+give-eight who (key k) s h = (h .0, length-set (s .keys) who _ ∙ h .1)
+
+pub giveAll-eight : (who : ℕ) (ns : List Name) (s : State) → EightEach s → EightEach (giveAll who ns s)
+giveAll-eight who [] s h = h
+giveAll-eight who (n ∷ ns) s h = giveAll-eight who ns (give who n s) (give-eight who n s h)
+
+-- the party holds the same in both states
+abbrev pub SameWords : ℕ → State → State → Type 0
+SameWords p s₁ s₂ = (getD (s₁ .partitions) p 0 ≡ getD (s₂ .partitions) p 0) × (getD (s₁ .keys) p 0 ≡ getD (s₂ .keys) p 0)
+
+pub holds-same : (p : ℕ) (s₁ s₂ : State) → SameWords p s₁ s₂ → (n : Name) → holds s₁ p n ≡ holds s₂ p n
+unfolding holds
+holds-same p s₁ s₂ h n = rw (h .0, h .1) refl
+
+give-other : (who p : ℕ) (n : Name) (s : State) → p ≢ who → SameWords p (give who n s) s
+unfolding give
+give-other who p (partition c) s h = (getD-set-other (s .partitions) who p _ 0 h, refl)
+give-other who p (key k) s h = (refl, getD-set-other (s .keys) who p _ 0 h)
+
+pub giveAll-other : (who p : ℕ) (ns : List Name) (s : State) → p ≢ who → SameWords p (giveAll who ns s) s
+giveAll-other who p [] s h = (refl, refl)
+giveAll-other who p (n ∷ ns) s h =
+    let a : SameWords p (giveAll who ns (give who n s)) (give who n s) = giveAll-other who p ns (give who n s) h in
+    let b : SameWords p (give who n s) s = give-other who p n s h in
+    (a .0 ∙ b .0, a .1 ∙ b .1)
+
+-- what is held after a gift was held before, or is the gift
+pub holds-give : (who p : ℕ) (n m : Name) (s : State) → holds (give who n s) p m ≡ true → (holds s p m ≡ true) ⊎ (n ≡ m)
+unfolding give holds heldIn
+holds-give who p (partition c) (partition d) s h = elim (bit-set (s .partitions) who p c d h) [ inl a ↦ inl a | inr e ↦ inr (ap partition e) ]
+holds-give who p (partition c) (key d) s h = inl h
+holds-give who p (key c) (partition d) s h = inl h
+holds-give who p (key c) (key d) s h = elim (bit-set (s .keys) who p c d h) [ inl a ↦ inl a | inr e ↦ inr (ap key e) ]
+
+-- the same change to a word of each of two lists
+set-alike : (l₁ l₂ : List ℕ) (f : ℕ → ℕ) (who p : ℕ) → who < length l₁ → who < length l₂
+    → getD l₁ who 0 ≡ getD l₂ who 0 → getD l₁ p 0 ≡ getD l₂ p 0
+    → getD (set l₁ who (f (getD l₁ who 0))) p 0 ≡ getD (set l₂ who (f (getD l₂ who 0))) p 0
+set-alike l₁ l₂ f who p h₁ h₂ e q = go (ℕ-discrete p who)
+  where
+    v₁ : ℕ
+    v₁ = f (getD l₁ who 0)
+
+    v₂ : ℕ
+    v₂ = f (getD l₂ who 0)
+
+    go : Dec (p ≡ who) → getD (set l₁ who v₁) p 0 ≡ getD (set l₂ who v₂) p 0
+    go (yes r) =
+        subst (λ (x : ℕ). getD (set l₁ who v₁) x 0 ≡ getD (set l₂ who v₂) x 0) (sym r)
+        (getD-set-same l₁ who v₁ 0 h₁ ∙ ap f e ∙ sym (getD-set-same l₂ who v₂ 0 h₂))
+    go (no r) = getD-set-other l₁ who p v₁ 0 r ∙ q ∙ sym (getD-set-other l₂ who p v₂ 0 r)
+
+module _ (who p : ℕ) (inRange : who < 8) where
+  give-alike : (n : Name) (s₁ s₂ : State) → EightEach s₁ → EightEach s₂ → SameWords who s₁ s₂ → SameWords p s₁ s₂
+      → SameWords p (give who n s₁) (give who n s₂)
+  unfolding give
+  give-alike (partition c) s₁ s₂ l₁ l₂ h q =
+      (set-alike (s₁ .partitions) (s₂ .partitions) (λ x. withBit x c) who p (omega (arith, l₁ .0)) (omega (arith, l₂ .0)) (h .0) (q .0), q .1)
+  give-alike (key c) s₁ s₂ l₁ l₂ h q =
+      (q .0, set-alike (s₁ .keys) (s₂ .keys) (λ x. withBit x c) who p (omega (arith, l₁ .1)) (omega (arith, l₂ .1)) (h .1) (q .1))
+
+pub giveAll-alike : (who p : ℕ) (ns : List Name) (s₁ s₂ : State) → who < 8 → EightEach s₁ → EightEach s₂ → SameWords who s₁ s₂ → SameWords p s₁ s₂
+    → SameWords p (giveAll who ns s₁) (giveAll who ns s₂)
+giveAll-alike who p [] s₁ s₂ w l₁ l₂ h q = q
+giveAll-alike who p (n ∷ ns) s₁ s₂ w l₁ l₂ h q =
+    giveAll-alike who p ns (give who n s₁) (give who n s₂) w (give-eight who n s₁ l₁) (give-eight who n s₂ l₂)
+    (give-alike who who w n s₁ s₂ l₁ l₂ h h) (give-alike who p w n s₁ s₂ l₁ l₂ h q)

@@ -1,0 +1,304 @@
+-- Every call, and every opening, leaves a state that the layout can hold, and 128 rows suffice for it.
+use mathlib.Core.Path.{_≡_, refl, ap, _∙_}
+use mathlib.Core.Logic.{_⊎_, inl, inr, _≢_}
+use mathlib.Core.Bool.{Bool, true, false, not, cond, true≢false, false≢true}
+use mathlib.Core.Option.{Option, none, some}
+use mathlib.Core.List.{List, [], _∷_, _++_, map}
+use Prim.Native.Nat.{ℕ, zero, suc, _+_, _*_, _/_, _%_, _≤_, _<_, suc-le-suc}
+use native.Mathlib.Omega.{arith}
+use native.Mathlib.Nat.{le-refl, le-trans, le-suc, not-suc-le-zero}
+use lib.Dec.{T, leb, ltb, eqb, nleb→lt, nltb→le, ltb→lt}
+use lib.IntN.{ℤ}
+use lib.ListN.{length, getD, set, take, drop, length-append, length-set, length-map, length-take, length-drop}
+use Rattle.rules.specs.Lists.{all, keep, first, without, All}
+use Rattle.rules.specs.Names.{Name, partition, key, keyInRange, bit, withBit, defaultPartition, defaultKey}
+use Rattle.rules.specs.Fields.{Field, message, name, wildcard, bad, fieldOf, field, putField, nameIn, namesIn}
+use Rattle.rules.specs.Matching.{Pair, storedPair, Entry, Op, reading, taking, matches}
+use Rattle.rules.specs.State.{State, give, giveAll, withEntries, wrote, live, limitOf}
+use Rattle.rules.specs.Calls.{Call, put, seek, firstThatApplies, badPair, putTable, table, entryOf, remaining, gained, finding, serve, decided, step, opened}
+use Rattle.rules.proofs.BitLaws.{tOf, eqb-true, eqb-same, bit-with, bit-kept, bit-self}
+use Rattle.rules.proofs.ListLaws.{bool, clash, and-left, and-right, or-left, or-right, not-false, passed, All-map, All-snoc, All-without, keep-append}
+use Rattle.rules.proofs.KeyLaws.{stored-le}
+use Rattle.rules.proofs.Rows.{PairOk, EntryOk, WF}
+
+tNot : {b : Bool} → b ≡ false → T (not b)
+tNot e = rw e tt
+
+leb-false : {m n : ℕ} → leb m n ≡ false → n < m
+leb-false {m} {n} e = nleb→lt m n (tNot e)
+
+ltb-false : {m n : ℕ} → ltb m n ≡ false → n ≤ m
+ltb-false {m} {n} e = nltb→le m n (tNot e)
+
+some-of : (n : ℕ) → eqb n 0 ≡ false → 1 ≤ n
+some-of zero e = absurd (true≢false e)
+some-of (suc n) e = omega arith
+
+-- ---- counting a party's entries
+
+live-snoc : (p : ℕ) (es : List Entry) (e : Entry) → live p (es ++ (e ∷ [])) ≡ live p es + cond (wrote p e) 1 0
+unfolding live
+live-snoc p es e =
+    rw (keep-append (wrote p) es (e ∷ []), length-append (keep (wrote p) es) (keep (wrote p) (e ∷ [])))
+    (ap (λ n. length (keep (wrote p) es) + n) (go (wrote p e)))
+  where
+    go : (b : Bool) → length (cond b (e ∷ []) []) ≡ cond b 1 0
+    go true = refl
+    go false = refl
+
+live-tail : (p : ℕ) (e : Entry) (es : List Entry) → live p es ≤ live p (e ∷ es)
+unfolding live
+live-tail p e es = go (wrote p e)
+  where
+    go : (b : Bool) → length (keep (wrote p) es) ≤ length (cond b (e ∷ keep (wrote p) es) (keep (wrote p) es))
+    go true = le-suc (length (keep (wrote p) es))
+    go false = le-refl (length (keep (wrote p) es))
+
+live-cons : (p : ℕ) (e : Entry) (fs es : List Entry) → live p fs ≤ live p es → live p (e ∷ fs) ≤ live p (e ∷ es)
+unfolding live
+live-cons p e fs es h = go (wrote p e)
+  where
+    go : (b : Bool) → length (cond b (e ∷ keep (wrote p) fs) (keep (wrote p) fs)) ≤ length (cond b (e ∷ keep (wrote p) es) (keep (wrote p) es))
+    go true = suc-le-suc h
+    go false = h
+
+live-without : (p : ℕ) (m : Entry → Bool) (es : List Entry) → live p (without m es) ≤ live p es
+live-without p m [] = le-refl (live p [])
+live-without p m (e ∷ es) = go (m e) (live-without p m es)
+  where
+    go : (b : Bool) → live p (without m es) ≤ live p es → live p (cond b es (e ∷ without m es)) ≤ live p (e ∷ es)
+    go true h = live-tail p e es
+    go false h = live-cons p e (without m es) es h
+
+live-keep : (p : ℕ) (q : Entry → Bool) (es : List Entry) → live p (keep q es) ≤ live p es
+live-keep p q [] = le-refl (live p [])
+live-keep p q (e ∷ es) = go (q e) (live-keep p q es)
+  where
+    go : (b : Bool) → live p (keep q es) ≤ live p es → live p (cond b (e ∷ keep q es) (keep q es)) ≤ live p (e ∷ es)
+    go true h = live-cons p e (keep q es) es h
+    go false h = le-trans h (live-tail p e es)
+
+-- ---- names in range
+
+abbrev pub NameOk : Name → Type 0
+NameOk (partition c) = c ≤ 63
+NameOk (key k) = k ≤ 62
+
+All-append : {A : Type 0} (P : A → Type 0) (l r : List A) → All P l → All P r → All P (l ++ r)
+All-append P [] r h k = k
+All-append P (x ∷ l) r h k = (h .0, All-append P l r (h .1) k)
+
+abbrev FieldOk : Field → Type 0
+FieldOk f = All NameOk (nameIn f)
+
+either-ok : (b : Bool) (f g : Field) → (b ≡ true → FieldOk f) → FieldOk g → FieldOk (cond b f g)
+either-ok true f g h k = h refl
+either-ok false f g h k = k
+
+field-ok : (k v : ℕ) → FieldOk (fieldOf k v)
+field-ok k v =
+    let named : (b : ℕ) (n : Name) → (v < b → NameOk n) → FieldOk (cond (ltb v b) (name n) bad) =
+    λ b n h. either-ok (ltb v b) (name n) bad (λ e. (h (ltb→lt v b (tOf e)), tt)) tt in
+    either-ok (eqb k 0) (message v) _ (λ e. tt)
+    (either-ok (eqb k 1) _ _ (λ e. named 64 (partition v) (λ u. omega arith))
+    (either-ok (eqb k 2) _ _ (λ e. named 63 (key v) (λ u. omega arith))
+    (either-ok (eqb k 3) _ bad (λ e. either-ok (eqb v 0) wildcard bad (λ e. tt) tt) tt)))
+
+pub namesIn-ok : (ws : List ℕ) → All NameOk (namesIn ws)
+unfolding field
+namesIn-ok [] = tt
+namesIn-ok (w ∷ ws) = All-append NameOk (nameIn (field w)) (namesIn ws) (field-ok (w / 4294967296) (w % 4294967296)) (namesIn-ok ws)
+
+-- ---- holdings
+
+all-set : (f : ℕ → Bool) (u : ℕ → ℕ) → ((w : ℕ) → f w ≡ true → f (u w) ≡ true)
+    → (l : List ℕ) (who : ℕ) → all f l ≡ true → all f (set l who (u (getD l who 0))) ≡ true
+all-set f u h [] who e = refl
+all-set f u h (w ∷ l) zero e = rw (h w (and-left (f w) (all f l) e)) (and-right (f w) (all f l) e)
+all-set f u h (w ∷ l) (suc who) e = rw (and-left (f w) (all f l) e) (all-set f u h l who (and-right (f w) (all f l) e))
+
+clear63 : (w k : ℕ) → k ≤ 62 → not (bit w 63) ≡ true → not (bit (withBit w k) 63) ≡ true
+clear63 w k l h = go (bool (bit (withBit w k) 63))
+  where
+    never : (bit w 63 ≡ true) ⊎ (k ≡ 63) → ⊥
+    never (inl e) = absurd (false≢true (rw e at h))
+    never (inr e) = omega arith
+
+    go : (bit (withBit w k) 63 ≡ true) ⊎ (bit (withBit w k) 63 ≡ false) → not (bit (withBit w k) 63) ≡ true
+    go (inl e) = absurd (never (bit-with w k 63 e))
+    go (inr e) = rw e refl
+
+wf-give : (who : ℕ) (n : Name) (s : State) → NameOk n → WF s → WF (give who n s)
+unfolding give
+wf-give who (partition c) s o h =
+    record {
+      partitionsLen = length-set (s .partitions) who _ ∙ h .partitionsLen;
+      keysLen = h .keysLen;
+      partitions0 = all-set (λ w. bit w defaultPartition) (λ w. withBit w c) (λ w e. bit-kept w c defaultPartition e) (s .partitions) who (h .partitions0);
+      keys0 = h .keys0;
+      keys63 = h .keys63;
+      rows = h .rows;
+      limits = h .limits;
+    }
+wf-give who (key k) s o h =
+    record {
+      partitionsLen = h .partitionsLen;
+      keysLen = length-set (s .keys) who _ ∙ h .keysLen;
+      partitions0 = h .partitions0;
+      keys0 = all-set (λ w. bit w defaultKey) (λ w. withBit w k) (λ w e. bit-kept w k defaultKey e) (s .keys) who (h .keys0);
+      keys63 = all-set (λ w. not (bit w 63)) (λ w. withBit w k) (λ w e. clear63 w k o e) (s .keys) who (h .keys63);
+      rows = h .rows;
+      limits = h .limits;
+    }
+
+pub wf-giveAll : (who : ℕ) (ns : List Name) (s : State) → All NameOk ns → WF s → WF (giveAll who ns s)
+wf-giveAll who [] s o h = h
+wf-giveAll who (n ∷ ns) s o h = wf-giveAll who ns (give who n s) (o .1) (wf-give who n s (o .0) h)
+
+pub wf-with : (es : List Entry) (s : State) → WF s → All EntryOk es → ((p : ℕ) → live p es ≤ limitOf (withEntries es s) p) → WF (withEntries es s)
+wf-with es s h r l =
+    record {
+      partitionsLen = h .partitionsLen;
+      keysLen = h .keysLen;
+      partitions0 = h .partitions0;
+      keys0 = h .keys0;
+      keys63 = h .keys63;
+      rows = r;
+      limits = l;
+    }
+
+-- ---- the calls
+
+pair-ok : (p : Pair ℤ) → badPair p ≡ false → PairOk (storedPair p)
+pair-ok p h =
+    record {
+      partitionOk = ltb-false (or-left (ltb 63 (p .partition)) (not (keyInRange (p .key))) h);
+      keyOk = stored-le (p .key) (not-false (keyInRange (p .key)) (or-right (ltb 63 (p .partition)) (not (keyInRange (p .key))) h));
+    }
+
+-- the entry of a put that no test turns away fits a row, and its writer has room for it
+pub entry-ok : (s : State) (who : ℕ) (r t : Pair ℤ) (fs : List ℕ) → firstThatApplies (putTable s who r t fs) ≡ none
+    → EntryOk (entryOf who r t fs) × (live who (s .entries) < limitOf s who)
+unfolding putTable
+entry-ok s who r t fs h =
+    let q : All (λ t. t .0 ≡ false) (putTable s who r t fs) = passed (putTable s who r t fs) h in (
+      record {
+        writerOk = ltb-false (q .0);
+        readOk = pair-ok r (or-left (badPair r) (badPair t) (q .1 .1 .0));
+        takeOk = pair-ok t (or-right (badPair r) (badPair t) (q .1 .1 .0));
+        some = some-of (length fs) (or-left (eqb (length fs) 0) (ltb 8 (length fs)) (q .1 .0));
+        few = ltb-false (or-right (eqb (length fs) 0) (ltb 8 (length fs)) (q .1 .0));
+        fieldsOk = not-false (all putField fs) (q .1 .1 .1 .0);
+      },
+      leb-false (q .1 .1 .1 .1 .1 .0),
+    )
+
+remaining-ok : (op : Op) (m : Entry → Bool) (es : List Entry) → All EntryOk es → All EntryOk (remaining op m es)
+remaining-ok reading m es h = h
+remaining-ok taking m es h = All-without EntryOk m es h
+
+remaining-live : (op : Op) (m : Entry → Bool) (es : List Entry) (p : ℕ) → live p (remaining op m es) ≤ live p es
+remaining-live reading m es p = le-refl (live p es)
+remaining-live taking m es p = live-without p m es
+
+pub wf-remaining : (op : Op) (m : Entry → Bool) (s : State) → WF s → WF (withEntries (remaining op m (s .entries)) s)
+wf-remaining op m s h =
+    wf-with (remaining op m (s .entries)) s h (remaining-ok op m (s .entries) (h .rows)) (λ q. le-trans (remaining-live op m (s .entries) q) (h .limits q))
+
+-- a call that no test turns away
+pub wf-serve : (s : State) (c : Call ℕ) → WF s → firstThatApplies (table s c) ≡ none → WF (serve s c .state)
+wf-serve s (put who r t fs) h q =
+    let o = entry-ok s who r t fs q in
+    wf-with (s .entries ++ (e ∷ [])) s h (All-snoc EntryOk (s .entries) e (h .rows) (o .0)) (room (o .1))
+  where
+    e : Entry
+    e = entryOf who r t fs
+
+    room : live who (s .entries) < limitOf s who → (p : ℕ) → live p (s .entries ++ (e ∷ [])) ≤ limitOf s p
+    room l p = rw (live-snoc p (s .entries) e) (go (bool (eqb who p)))
+      where
+        go : (eqb who p ≡ true) ⊎ (eqb who p ≡ false) → live p (s .entries) + cond (eqb who p) 1 0 ≤ limitOf s p
+        go (inl q) = rw (q, ← (eqb-true who p q)) (omega arith)
+        go (inr q) = rw q (omega (arith, h .limits p))
+wf-serve s (seek op who p t room) h q = go (first m (s .entries))
+  where
+    m : Entry → Bool
+    m = matches op (storedPair p) t
+
+    es : List Entry
+    es = remaining op m (s .entries)
+
+    go : (o : Option Entry) → WF (finding op who o es s .state)
+    go none = h
+    go (some x) =
+        wf-giveAll who (gained op x) (withEntries es s) (namesIn-ok (x .fields)) (wf-remaining op m s h)
+
+pub wf-step : (s : State) (c : Call ℕ) → WF s → WF (step s c .state)
+unfolding step
+wf-step s c h = go (firstThatApplies (table s c)) refl
+  where
+    go : (o : Option ℕ) → firstThatApplies (table s c) ≡ o → WF (decided o (serve s c) s .state)
+    go (some n) q = h
+    go none q = wf-serve s c h q
+
+-- ---- opening
+
+all-map : (f : ℕ → Bool) (u : ℕ → ℕ) → ((w : ℕ) → f w ≡ true → f (u w) ≡ true) → (l : List ℕ) → all f l ≡ true → all f (map u l) ≡ true
+all-map f u h [] e = refl
+all-map f u h (w ∷ l) e = rw (h w (and-left (f w) (all f l) e)) (all-map f u h l (and-right (f w) (all f l) e))
+
+all-withBit : (c : ℕ) (l : List ℕ) → all (λ w. bit w c) (map (λ w. withBit w c) l) ≡ true
+all-withBit c [] = refl
+all-withBit c (w ∷ l) = rw (bit-self w c) (all-withBit c l)
+
+pub wf-opened : (roster : List ℕ) → length roster ≡ 16 → all (λ w. not (bit w 63)) (drop 8 roster) ≡ true → WF (opened roster)
+unfolding opened live
+wf-opened roster l h =
+    record {
+      partitionsLen = length-map (take 8 roster) _ ∙ length-take 8 roster ∙ omega arith;
+      keysLen = length-map (drop 8 roster) _ ∙ length-drop 8 roster ∙ omega arith;
+      partitions0 = all-withBit defaultPartition (take 8 roster);
+      keys0 = all-withBit defaultKey (drop 8 roster);
+      keys63 = all-map (λ w. not (bit w 63)) (λ w. withBit w defaultKey) (λ w e. clear63 w defaultKey (omega arith) e) (drop 8 roster) h;
+      rows = tt;
+      limits = λ p. omega arith;
+    }
+
+-- ---- the 128 rows suffice
+
+abbrev others : ℕ → Entry → Bool
+others k e = not (wrote k e)
+
+split-len : (k : ℕ) (es : List Entry) → length es ≡ live k es + length (keep (others k) es)
+unfolding live
+split-len k [] = refl
+split-len k (e ∷ es) = go (wrote k e) (split-len k es)
+  where
+    go : (b : Bool) → length es ≡ length (keep (wrote k) es) + length (keep (others k) es)
+        → suc (length es) ≡ length (cond b (e ∷ keep (wrote k) es) (keep (wrote k) es)) + length (cond (not b) (e ∷ keep (others k) es) (keep (others k) es))
+    go true h = omega arith
+    go false h = omega arith
+
+below : (k : ℕ) (es : List Entry) → All (λ e. e .writer < suc k) es → All (λ e. e .writer < k) (keep (others k) es)
+below k [] h = tt
+below k (e ∷ es) h = go (bool (wrote k e)) (below k es (h .1))
+  where
+    lt-of : (w : ℕ) → w < suc k → eqb w k ≡ false → w < k
+    lt-of w a b = let n : w ≢ k = λ q. clash (eqb w k) (rw q (eqb-same k)) b in omega arith
+
+    go : (wrote k e ≡ true) ⊎ (wrote k e ≡ false) → All (λ e. e .writer < k) (keep (others k) es)
+        → All (λ e. e .writer < k) (keep (others k) (e ∷ es))
+    go (inl t) r = rw t r
+    go (inr t) r = rw t (lt-of (e .writer) (h .0) t, r)
+
+count : (k : ℕ) (es : List Entry) → All (λ e. e .writer < k) es → ((p : ℕ) → live p es ≤ 16) → length es ≤ 16 * k
+count zero [] h l = le-refl 0
+count zero (e ∷ es) h l = absurd (not-suc-le-zero (h .0))
+count (suc k) es h l =
+    let r : length (keep (others k) es) ≤ 16 * k = count k (keep (others k) es) (below k es h) (λ p. le-trans (live-keep p (others k) es) (l p)) in
+    let a : live k es ≤ 16 = l k in
+    let b : length es ≡ live k es + length (keep (others k) es) = split-len k es in
+    omega arith
+
+pub few-rows : (s : State) → WF s → length (s .entries) ≤ 128
+few-rows s h = count 8 (s .entries) (All-map EntryOk (λ e. e .writer < 8) (λ e o. suc-le-suc (o .writerOk)) (s .entries) (h .rows)) (h .limits)

@@ -1,0 +1,114 @@
+-- Isolation on words: runs from an opening's words follow the runs on the states that they stand for.
+use mathlib.Core.Path.{_≡_, refl, ap}
+use mathlib.Core.Option.{Option, none, some}
+use mathlib.Core.List.{List, [], _∷_, map}
+use Prim.Native.Nat.{ℕ, zero, suc}
+use lib.ListN.{length, take, drop}
+use lib.Seq.{take-append-seam}
+use Rattle.rules.specs.Lists.{keep, first}
+use Rattle.rules.specs.Names.{Name}
+use Rattle.rules.specs.Matching.{storedPair, Entry, reading, taking, matches}
+use Rattle.rules.specs.State.{State}
+use Rattle.rules.specs.Calls.{Call, put, seek, Outcome, remaining, finding, serve, step, opened}
+use Rattle.rules.specs.Words.{encode, decode, asked, resultOf, exitOf, opening}
+use Rattle.rules.specs.Runs.{reply, replies}
+use Rattle.rules.specs.Group.{Group, byGroup, CallInGrasp, OutOfGrasp, NamesAt, SameHoldings, Isolated, Isolation}
+use Rattle.rules.proofs.Rows.{WF}
+use Rattle.rules.proofs.Kept.{wf-step}
+use Rattle.rules.proofs.WordRuns.{back, call-encode, end-lift, Opened, open-done}
+use Rattle.rules.proofs.StateRuns.{stateReply, stateReplies, StateOutOfGrasp, StateIsolated, step-cases}
+use Rattle.rules.proofs.Isolation.{state-isolation}
+
+reply-step : (s : State) (c : Call ℕ) (result : List ℕ) → reply (exitOf (step s c) result) ≡ stateReply (step s c)
+reply-step s c result = step-cases (λ o. reply (exitOf o result) ≡ stateReply o) s c (λ n. refl) (λ e. served c)
+  where
+    served : (c : Call ℕ) → reply (exitOf (serve s c) result) ≡ stateReply (serve s c)
+    served (put who r t fs) = refl
+    served (seek op who p t room) = go (first (matches op (storedPair p) t) (s .entries))
+      where
+        found-in : Option Entry → Outcome
+        found-in o = finding op who o (remaining op (matches op (storedPair p) t) (s .entries)) s
+
+        go : (o : Option Entry) → reply (exitOf (found-in o) result) ≡ stateReply (found-in o)
+        go none = refl
+        go (some e) = rw (take-append-seam (e .fields) (drop (length (e .fields)) result)) refl
+
+-- the contents of the result words count neither for the group nor for the grasp
+asked-group : (g : Group) (c : Call (List ℕ)) → byGroup g (asked c) ≡ byGroup g c
+unfolding byGroup
+asked-group g (put who r t fs) = refl
+asked-group g (seek op who p t result) = refl
+
+asked-grasp : (N : Name → Type 0) (c : Call (List ℕ)) → CallInGrasp N (asked c) → CallInGrasp N c
+asked-grasp N (put who r t fs) h = h
+asked-grasp N (seek reading who p t result) h = h
+asked-grasp N (seek taking who p t result) h = h
+
+-- ---- runs
+
+replies-lift : (g : Group) (cs : List (Call (List ℕ))) (s : State) → WF s
+    → replies (byGroup g) (encode s) cs ≡ stateReplies (byGroup g) s (map asked cs)
+replies-lift g [] s h = refl
+replies-lift g (c ∷ cs) s h =
+    rw (
+      call-encode s c h,
+      reply-step s (asked c) (resultOf c),
+      replies-lift g cs (step s (asked c) .state) (wf-step s (asked c) h),
+      asked-group g c,
+    ) refl
+
+grasp-lift : (g : Group) (N : Name → Type 0) (cs : List (Call (List ℕ))) (s : State) → WF s
+    → OutOfGrasp g N (encode s) cs → StateOutOfGrasp g N s (map asked cs)
+grasp-lift g N [] s h q = tt
+grasp-lift g N (c ∷ cs) s h q =
+    let q′ = rw (call-encode s c h) at q in
+    (λ e u k. q′ .0 (rw (asked-group g c) at e) u (asked-grasp N c k), grasp-lift g N cs (step s (asked c) .state) (wf-step s (asked c) h) (q′ .1))
+
+take-map : (i : ℕ) (cs : List (Call (List ℕ))) → map asked (take i cs) ≡ take i (map asked cs)
+take-map zero cs = refl
+take-map (suc i) [] = refl
+take-map (suc i) (c ∷ cs) = ap (λ l. asked c ∷ l) (take-map i cs)
+
+-- ---- both runs
+
+isolated-lift : (g : Group) (s₁ s₂ : State) → WF s₁ → WF s₂ → (cs₁ cs₂ : List (Call (List ℕ)))
+    → StateIsolated g s₁ s₂ (map asked cs₁) (map asked cs₂) → Isolated g (encode s₁) (encode s₂) cs₁ cs₂
+isolated-lift g s₁ s₂ h₁ h₂ cs₁ cs₂ a =
+    record {
+      sameReplies = rw (replies-lift g cs₁ s₁ h₁, replies-lift g cs₂ s₂ h₂) (a .sameReplies);
+      sameEntries = rw (end-lift cs₁ s₁ h₁, end-lift cs₂ s₂ h₂) (a .sameEntries);
+      sameHoldings = rw (end-lift cs₁ s₁ h₁, end-lift cs₂ s₂ h₂) (a .sameHoldings);
+      inside₁ = λ i p n k m. rw (back s₁ h₁) (a .inside₁ i p n k (rw (end-lift (take i cs₁) s₁ h₁, take-map i cs₁) at m));
+      inside₂ = λ i p n k m. rw (back s₂ h₂) (a .inside₂ i p n k (rw (end-lift (take i cs₂) s₂ h₂, take-map i cs₂) at m));
+    }
+
+pub isolation : Isolation
+isolation g old₁ old₂ roster₁ roster₂ d₁ d₂ = rw (o₁ .words, o₂ .words) go
+  where
+    s₁ : State
+    s₁ = opened roster₁
+
+    s₂ : State
+    s₂ = opened roster₂
+
+    o₁ : Opened (opening old₁ roster₁) roster₁
+    o₁ = open-done old₁ roster₁ d₁
+
+    o₂ : Opened (opening old₂ roster₂) roster₂
+    o₂ = open-done old₂ roster₂ d₂
+
+    b₁ : decode (encode s₁) ≡ s₁
+    b₁ = back s₁ (o₁ .wf)
+
+    b₂ : decode (encode s₂) ≡ s₂
+    b₂ = back s₂ (o₂ .wf)
+
+    go : SameHoldings g (decode (encode s₁)) (decode (encode s₂))
+        → (cs₁ cs₂ : List (Call (List ℕ))) → keep (byGroup g) (map asked cs₁) ≡ keep (byGroup g) (map asked cs₂)
+        → OutOfGrasp g (NamesAt g (encode s₁)) (encode s₁) cs₁ → OutOfGrasp g (NamesAt g (encode s₂)) (encode s₂) cs₂
+        → Isolated g (encode s₁) (encode s₂) cs₁ cs₂
+    go same cs₁ cs₂ e q₁ q₂ =
+        isolated-lift g s₁ s₂ (o₁ .wf) (o₂ .wf) cs₁ cs₂
+        (state-isolation g roster₁ roster₂ (o₁ .sixteen) (o₂ .sixteen) (rw (b₁, b₂) at same) (map asked cs₁) (map asked cs₂) e
+        (rw b₁ at (grasp-lift g (NamesAt g (encode s₁)) cs₁ s₁ (o₁ .wf) q₁))
+        (rw b₂ at (grasp-lift g (NamesAt g (encode s₂)) cs₂ s₂ (o₂ .wf) q₂)))

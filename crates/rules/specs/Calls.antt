@@ -1,0 +1,146 @@
+-- The calls on a state: when each is refused, what it answers, and what it leaves.
+use mathlib.Core.Bool.{Bool, not, _||_, cond}
+use mathlib.Core.List.{List, [], _∷_, _++_, map}
+use mathlib.Core.Option.{Option, none, some}
+use Prim.Native.Nat.{ℕ}
+use lib.Dec.{leb, ltb, eqb}
+use lib.IntN.{ℤ}
+use lib.ListN.{length, take, drop}
+use Rattle.rules.specs.Lists.{all, first, without}
+use Rattle.rules.specs.Names.{Name, partition, key, keyInRange, withBit, defaultPartition, defaultKey}
+use Rattle.rules.specs.Fields.{putField, templateField, namesIn}
+use Rattle.rules.specs.Matching.{Pair, storedPair, Entry, Op, reading, taking, matches}
+use Rattle.rules.specs.State.{State, holds, giveAll, withEntries, live, limitOf}
+
+-- G2: a call after the opening. R is what a read or take has of its result words: the words themselves where it is made,
+-- their number alone where calls are compared
+pub data Call (R : Type 0) : Type 0 where
+  -- the party, the read pair, the take pair, the fields
+  put : ℕ → Pair ℤ → Pair ℤ → List ℕ → Call R
+  -- read or take, the party, the template's pair and fields, the result words
+  seek : Op → ℕ → Pair ℤ → List ℕ → R → Call R
+
+abbrev pub partyOf : {R : Type 0} → Call R → ℕ
+partyOf (put who r t fs) = who
+partyOf (seek op who p t result) = who
+
+-- C5: "done", "found" with the field count, "none", or the refusal's number
+pub data Answer : Type 0 where
+  done : Answer
+  found : ℕ → Answer
+  nothing : Answer
+  refused : ℕ → Answer
+
+-- ---- refusals: a table is a list of tests, each with its number, and the first that applies decides
+
+abbrev pub Table : Type 0
+Table = List (Bool × ℕ)
+
+abbrev pub firstThatApplies : Table → Option ℕ
+firstThatApplies [] = none
+firstThatApplies (t ∷ ts) = cond (t .0) (some (t .1)) (firstThatApplies ts)
+
+-- R3
+abbrev pub badCount : List ℕ → Bool
+badCount fs = eqb (length fs) 0 || ltb 8 (length fs)
+
+-- R4
+abbrev pub badPair : Pair ℤ → Bool
+badPair p = ltb 63 (p .partition) || not (keyInRange (p .key))
+
+-- R7: the names in a pair
+abbrev pub pairNames : Pair ℕ → List Name
+pairNames p = partition (p .partition) ∷ key (p .key) ∷ []
+
+-- R7: the names that a call needs: those of its pairs, and those in its fields
+abbrev pub putNames : Pair ℤ → Pair ℤ → List ℕ → List Name
+putNames r t fs = pairNames (storedPair r) ++ (pairNames (storedPair t) ++ namesIn fs)
+
+abbrev pub seekNames : Pair ℤ → List ℕ → List Name
+seekNames p t = pairNames (storedPair p) ++ namesIn t
+
+-- R2 to R8, for a put
+unfoldable pub putTable : State → ℕ → Pair ℤ → Pair ℤ → List ℕ → Table
+putTable s who r t fs =
+    (ltb 7 who, 2)
+    ∷ (badCount fs, 3)
+    ∷ (badPair r || badPair t, 4)
+    ∷ (not (all putField fs), 5)
+    ∷ (not (all (holds s who) (putNames r t fs)), 7)
+    ∷ (leb (limitOf s who) (live who (s .entries)), 8)
+    ∷ []
+
+-- R2 to R7, for a read or a take with that many result words
+unfoldable pub seekTable : State → ℕ → Pair ℤ → List ℕ → ℕ → Table
+seekTable s who p t room =
+    (ltb 7 who, 2)
+    ∷ (badCount t, 3)
+    ∷ (badPair p, 4)
+    ∷ (not (all templateField t), 5)
+    ∷ (ltb room (length t), 6)
+    ∷ (not (all (holds s who) (seekNames p t)), 7)
+    ∷ []
+
+abbrev pub table : State → Call ℕ → Table
+table s (put who r t fs) = putTable s who r t fs
+table s (seek op who p t room) = seekTable s who p t room
+
+-- ---- what a call answers and leaves
+
+pub record Outcome : Type 0 where
+  pub answer : Answer
+  pub fields : List ℕ
+  pub state : State
+
+abbrev pub unchanged : Answer → State → Outcome
+unchanged a s = record { answer = a; fields = []; state = s }
+
+-- C2: the entry that a put makes
+abbrev pub entryOf : ℕ → Pair ℤ → Pair ℤ → List ℕ → Entry
+entryOf who r t fs = record { writer = who; readPair = storedPair r; takePair = storedPair t; fields = fs }
+
+-- C2: the entry becomes the newest
+abbrev pub served : Entry → State → Outcome
+served e s = record { answer = done; fields = []; state = withEntries (s .entries ++ (e ∷ [])) s }
+
+-- C3, C4: the entries left once the oldest match is found
+abbrev pub remaining : Op → (Entry → Bool) → List Entry → List Entry
+remaining reading m es = es
+remaining taking m es = without m es
+
+-- C3: the names that the party gains from what it found; of a carried key the key alone, not its co-key
+abbrev pub gained : Op → Entry → List Name
+gained op e = namesIn (e .fields)
+
+-- C3 to C5: by what the search found: nothing, or the oldest match
+abbrev pub finding : Op → ℕ → Option Entry → List Entry → State → Outcome
+finding op who none es s = unchanged nothing s
+finding op who (some e) es s =
+    record { answer = found (length (e .fields)); fields = e .fields; state = giveAll who (gained op e) (withEntries es s) }
+
+-- M5: the search, oldest first
+abbrev pub sought : Op → ℕ → (Entry → Bool) → State → Outcome
+sought op who m s = finding op who (first m (s .entries)) (remaining op m (s .entries)) s
+
+-- C2 to C4: a call that no test turns away
+abbrev pub serve : State → Call ℕ → Outcome
+serve s (put who r t fs) = served (entryOf who r t fs) s
+serve s (seek op who p t room) = sought op who (matches op (storedPair p) t) s
+
+-- R2 to R8: refused by a number and nothing changed, or served
+abbrev pub decided : Option ℕ → Outcome → State → Outcome
+decided (some n) o s = unchanged (refused n) s
+decided none o s = o
+
+-- one call on a state
+unfoldable pub step : State → Call ℕ → Outcome
+step s c = decided (firstThatApplies (table s c)) (serve s c) s
+
+-- C1: the state that an opening leaves: the roster's holdings, partition 0 and key 0 for everyone, no entries
+unfoldable pub opened : List ℕ → State
+opened roster =
+    record {
+      partitions = map (λ w. withBit w defaultPartition) (take 8 roster);
+      keys = map (λ w. withBit w defaultKey) (drop 8 roster);
+      entries = [];
+    }

@@ -1,0 +1,130 @@
+-- The claims of demands 1 and 2, as statements about the definitions that the contracts cite. Demand 3 is `Isolation`, in Group.
+use mathlib.Core.Path.{_≡_}
+use mathlib.Core.Bool.{true, false}
+use mathlib.Core.Option.{none}
+use mathlib.Core.List.{List, [], _∷_, _++_, map}
+use Prim.Native.Nat.{ℕ, _≤_, _<_}
+use lib.IntN.{ℤ}
+use lib.ListN.{length, getD, drop}
+use Rattle.rules.specs.Lists.{all, keep, All}
+use Rattle.rules.specs.Names.{keyInRange, coKey, stored, coStored}
+use Rattle.rules.specs.Fields.{putField, fieldAgrees}
+use Rattle.rules.specs.Matching.{Pair, storedPair, Entry, Op, pairFor, matches}
+use Rattle.rules.specs.State.{holds, live, wrote}
+use Rattle.rules.specs.Calls.{Call, put, seek, done, found, nothing, refused, Table, firstThatApplies, badCount, badPair, putNames}
+use Rattle.rules.specs.Words.{decode, sound, resultOf, call, refusals, badRoster, openRefusals, opening}
+use Rattle.rules.specs.Runs.{run, untaken, ledger}
+
+-- both ways
+abbrev pub Iff : Type 0 → Type 0 → Type 0
+Iff A B = (A → B) × (B → A)
+
+-- ---- demand 1
+
+-- the call leaves every word of space and result as it was
+abbrev pub ChangesNothing : List ℕ → Call (List ℕ) → Type 0
+ChangesNothing ws c = (call ws c .space ≡ ws) × (call ws c .result ≡ resultOf c)
+
+abbrev pub RefusalChangesNothing : Type 0
+RefusalChangesNothing = (ws : List ℕ) (c : Call (List ℕ)) (n : ℕ) → call ws c .answer ≡ refused n → ChangesNothing ws c
+
+abbrev pub NoneChangesNothing : Type 0
+NoneChangesNothing = (ws : List ℕ) (c : Call (List ℕ)) → call ws c .answer ≡ nothing → ChangesNothing ws c
+
+abbrev pub RefusedOpeningChangesNothing : Type 0
+RefusedOpeningChangesNothing = (ws roster : List ℕ) (n : ℕ) → opening ws roster .answer ≡ refused n → opening ws roster .space ≡ ws
+
+-- a number is the table's first that applies: its own test applies, and no earlier one does
+pub record FirstApplies (ts : Table) (n : ℕ) : Type 0 where
+  pub before : Table
+  pub after : Table
+  pub table : ts ≡ before ++ ((true, n) ∷ after)
+  pub noneBefore : All (λ t. t .0 ≡ false) before
+
+abbrev pub FirstRefusalDecides : Type 0
+FirstRefusalDecides = (ws : List ℕ) (c : Call (List ℕ)) (n : ℕ) → Iff (call ws c .answer ≡ refused n) (FirstApplies (refusals ws c) n)
+
+abbrev pub FirstOpenRefusalDecides : Type 0
+FirstOpenRefusalDecides =
+    (ws roster : List ℕ) (n : ℕ) → Iff (opening ws roster .answer ≡ refused n) (FirstApplies (openRefusals ws roster) n)
+
+abbrev pub SoundStaysSound : Type 0
+SoundStaysSound = (ws : List ℕ) (c : Call (List ℕ)) → sound ws ≡ true → sound (call ws c .space) ≡ true
+
+-- any 1,809 words, with a roster that is not turned away
+abbrev pub OpeningIsSound : Type 0
+OpeningIsSound =
+    (ws roster : List ℕ) → length ws ≡ 1809 → badRoster roster ≡ false
+    → (opening ws roster .answer ≡ done) × (sound (opening ws roster .space) ≡ true)
+
+-- ---- demand 2
+
+-- the call is turned away by no test
+abbrev pub Passes : List ℕ → Call (List ℕ) → Type 0
+Passes ws c = firstThatApplies (refusals ws c) ≡ none
+
+-- M1 to M4, clause by clause
+pub record Matches (op : Op) (p : Pair ℕ) (t : List ℕ) (e : Entry) : Type 0 where
+  pub counts : length t ≡ length (e .fields)
+  pub fields : (i : ℕ) → i < length t → fieldAgrees (getD t i 0) (getD (e .fields) i 0) ≡ true
+  pub partitions : pairFor op e .partition ≡ p .partition
+  pub keys : coStored (pairFor op e .key) ≡ p .key
+
+abbrev pub MatchingRule : Type 0
+MatchingRule = (op : Op) (p : Pair ℕ) (t : List ℕ) (e : Entry) → Iff (matches op p t e ≡ true) (Matches op p t e)
+
+-- the stored co-key is the co-key, stored
+abbrev pub StoredCoKey : Type 0
+StoredCoKey = (k : ℤ) → keyInRange k ≡ true → (coStored (stored k) ≡ stored (coKey k)) × (stored k ≤ 62)
+
+abbrev pub NoneExactlyWhenNothingMatches : Type 0
+NoneExactlyWhenNothingMatches =
+    (ws : List ℕ) (op : Op) (who : ℕ) (p : Pair ℤ) (t result : List ℕ) → Passes ws (seek op who p t result)
+    → Iff (call ws (seek op who p t result) .answer ≡ nothing)
+    (All (λ e. matches op (storedPair p) t e ≡ false) (decode ws .entries))
+
+-- what is found is the oldest match; its fields come first in the result, and the rest of it is kept
+pub record OldestMatch (ws : List ℕ) (op : Op) (p : Pair ℤ) (t result : List ℕ) (n : ℕ) (after : List ℕ) : Type 0 where
+  pub older : List Entry
+  pub entry : Entry
+  pub newer : List Entry
+  pub place : decode ws .entries ≡ older ++ (entry ∷ newer)
+  pub noOlder : All (λ e. matches op (storedPair p) t e ≡ false) older
+  pub match : matches op (storedPair p) t entry ≡ true
+  pub count : n ≡ length (entry .fields)
+  pub written : after ≡ entry .fields ++ drop n result
+
+abbrev pub FoundIsOldestMatch : Type 0
+FoundIsOldestMatch =
+    (ws : List ℕ) (op : Op) (who : ℕ) (p : Pair ℤ) (t result : List ℕ) (n : ℕ)
+    → call ws (seek op who p t result) .answer ≡ found n
+    → OldestMatch ws op p t result n (call ws (seek op who p t result) .result)
+
+-- R1 to R7 turn the put away by no test
+pub record PassesOneToSeven (ws : List ℕ) (who : ℕ) (r t : Pair ℤ) (fs : List ℕ) : Type 0 where
+  pub one : sound ws ≡ true
+  pub two : who ≤ 7
+  pub three : badCount fs ≡ false
+  pub four-read : badPair r ≡ false
+  pub four-take : badPair t ≡ false
+  pub five : all putField fs ≡ true
+  pub seven : all (holds (decode ws) who) (putNames r t fs) ≡ true
+
+abbrev pub NoRoomExactlyAtSixteen : Type 0
+NoRoomExactlyAtSixteen =
+    (ws : List ℕ) (who : ℕ) (r t : Pair ℤ) (fs : List ℕ) → PassesOneToSeven ws who r t fs
+    → Iff (call ws (put who r t fs) .answer ≡ refused 8) (live who (decode ws .entries) ≡ 16)
+
+abbrev pub RowsSuffice : Type 0
+RowsSuffice =
+    (ws : List ℕ) → sound ws ≡ true
+    → (length (decode ws .entries) ≤ 128)
+    × ((who : ℕ) (r t : Pair ℤ) (fs : List ℕ) → Passes ws (put who r t fs) → length (decode ws .entries) < 128)
+
+-- A2: over a run from an opening the live entries, and so each writer's, are the puts answered "done" less those that a take
+-- has found, in order
+abbrev pub LiveAreThePutsNotTaken : Type 0
+LiveAreThePutsNotTaken =
+    (old roster : List ℕ) → opening old roster .answer ≡ done → (cs : List (Call (List ℕ))) (who : ℕ)
+    → keep (wrote who) (decode (run (opening old roster .space) cs) .entries)
+    ≡ keep (wrote who) (map (λ l. l .entry) (keep untaken (ledger (opening old roster .space) cs [])))

@@ -1,0 +1,97 @@
+-- The watched group, and the claim of isolation (noninterference) about every two runs.
+use mathlib.Core.Path.{_≡_}
+use mathlib.Core.Logic.{_⊎_}
+use mathlib.Core.Bool.{Bool, true, false, _&&_}
+use mathlib.Core.List.{List, [], _∷_, map}
+use Prim.Native.Nat.{ℕ}
+use lib.Dec.{ltb}
+use lib.ListN.{getD, take}
+use Rattle.rules.specs.Lists.{keep}
+use Rattle.rules.specs.Names.{Name, partition, key, coStored}
+use Rattle.rules.specs.Matching.{Pair, storedPair, Entry, reading, taking}
+use Rattle.rules.specs.State.{State, holds}
+use Rattle.rules.specs.Calls.{Call, put, seek, partyOf, Answer, done, found, nothing, refused, entryOf}
+use Rattle.rules.specs.Words.{decode, asked, call, opening}
+use Rattle.rules.specs.Runs.{run, replies}
+
+-- G3: the group is a set of parties; a party above 7 is in no group
+abbrev pub Group : Type 0
+Group = ℕ → Bool
+
+unfoldable pub member : Group → ℕ → Bool
+member g who = ltb who 8 && g who
+
+-- G3: the call names a member as its party
+unfoldable pub byGroup : {R : Type 0} → Group → Call R → Bool
+byGroup g c = member g (partyOf c)
+
+-- G4: the group's names are all that its members hold in the state, put together
+pub record GroupName (g : Group) (s : State) (n : Name) : Type 0 where
+  pub who : ℕ
+  pub isMember : member g who ≡ true
+  pub held : holds s who n ≡ true
+
+-- G5: the names contain the pair's partition and the co-key of its key
+abbrev pub Reaches : (Name → Type 0) → Pair ℕ → Type 0
+Reaches N p = N (partition (p .partition)) × N (key (coStored (p .key)))
+
+-- G5: an entry in the group's "grasp": members could read it or take it
+abbrev pub EntryInGrasp : (Name → Type 0) → Entry → Type 0
+EntryInGrasp N e = Reaches N (e .readPair) ⊎ Reaches N (e .takePair)
+
+-- G5, G6: a put or a take in the group's "grasp"; reads never are
+abbrev pub CallInGrasp : {R : Type 0} → (Name → Type 0) → Call R → Type 0
+CallInGrasp N (put who r t fs) = EntryInGrasp N (entryOf who r t fs)
+CallInGrasp N (seek reading who p t result) = ⊥
+CallInGrasp N (seek taking who p t result) = Reaches N (storedPair p)
+
+abbrev pub unrefused : Answer → Bool
+unrefused done = true
+unrefused (found n) = true
+unrefused nothing = true
+unrefused (refused n) = false
+
+-- G7: the premise: along the run, unrefused calls from elsewhere are out of the grasp
+abbrev pub OutOfGrasp : Group → (Name → Type 0) → List ℕ → List (Call (List ℕ)) → Type 0
+OutOfGrasp g N ws [] = Unit {0}
+OutOfGrasp g N ws (c ∷ cs) =
+    (byGroup g c ≡ false → unrefused (call ws c .answer) ≡ true → ¬ (CallInGrasp N c)) × OutOfGrasp g N (call ws c .space) cs
+
+-- G4: the group's names at an opening
+abbrev pub NamesAt : Group → List ℕ → Name → Type 0
+NamesAt g ws = GroupName g (decode ws)
+
+-- G8: the members' partition words and key words are equal
+pub record SameHoldings (g : Group) (s₁ s₂ : State) : Type 0 where
+  pub samePartitions : (who : ℕ) → member g who ≡ true → getD (s₁ .partitions) who 0 ≡ getD (s₂ .partitions) who 0
+  pub sameKeys : (who : ℕ) → member g who ≡ true → getD (s₁ .keys) who 0 ≡ getD (s₂ .keys) who 0
+
+-- G8: the live entries whose writer is a member, oldest first
+abbrev pub groupEntries : Group → State → List Entry
+groupEntries g s = keep (λ e. member g (e .writer)) (s .entries)
+
+-- G9: after every beginning of the run no member holds a name outside the group's names
+abbrev pub Inside : Group → List ℕ → List (Call (List ℕ)) → Type 0
+Inside g ws cs =
+    (i who : ℕ) (n : Name) → member g who ≡ true → holds (decode (run ws (take i cs))) who n ≡ true → NamesAt g ws n
+
+-- G8, G9: what two runs have in common for the group
+pub record Isolated (g : Group) (ws₁ ws₂ : List ℕ) (cs₁ cs₂ : List (Call (List ℕ))) : Type 0 where
+  pub sameReplies : replies (byGroup g) ws₁ cs₁ ≡ replies (byGroup g) ws₂ cs₂
+  pub sameEntries : groupEntries g (decode (run ws₁ cs₁)) ≡ groupEntries g (decode (run ws₂ cs₂))
+  pub sameHoldings : SameHoldings g (decode (run ws₁ cs₁)) (decode (run ws₂ cs₂))
+  pub inside₁ : Inside g ws₁ cs₁
+  pub inside₂ : Inside g ws₂ cs₂
+
+-- G1 to G9, demand 3: for every group and every two runs, each from an opening of its own over any old contents, whose openings
+-- give each member the same holdings, whose group calls are the same in the same order, and which both keep the premise
+abbrev pub Isolation : Type 0
+Isolation =
+    (g : Group) (old₁ old₂ roster₁ roster₂ : List ℕ)
+    → opening old₁ roster₁ .answer ≡ done → opening old₂ roster₂ .answer ≡ done
+    → SameHoldings g (decode (opening old₁ roster₁ .space)) (decode (opening old₂ roster₂ .space))
+    → (cs₁ cs₂ : List (Call (List ℕ)))
+    → keep (byGroup g) (map asked cs₁) ≡ keep (byGroup g) (map asked cs₂)
+    → OutOfGrasp g (NamesAt g (opening old₁ roster₁ .space)) (opening old₁ roster₁ .space) cs₁
+    → OutOfGrasp g (NamesAt g (opening old₂ roster₂ .space)) (opening old₂ roster₂ .space) cs₂
+    → Isolated g (opening old₁ roster₁ .space) (opening old₂ roster₂ .space) cs₁ cs₂

@@ -1,0 +1,11 @@
+pub mod Lists
+pub mod Names
+pub mod Fields
+pub mod Matching
+pub mod State
+pub mod Calls
+pub mod Words
+pub mod Runs
+pub mod Group
+pub mod Claims
+pub mod Cases

@@ -1,0 +1,25 @@
+-- Lists: a test of every element, the elements kept by a test, the first that passes it, and the list without that one.
+use mathlib.Core.Bool.{Bool, true, _&&_, cond}
+use mathlib.Core.List.{List, [], _∷_}
+use mathlib.Core.Option.{Option, none, some}
+
+abbrev pub all : {A : Type 0} → (A → Bool) → List A → Bool
+all p [] = true
+all p (x ∷ xs) = p x && all p xs
+
+abbrev pub keep : {A : Type 0} → (A → Bool) → List A → List A
+keep p [] = []
+keep p (x ∷ xs) = cond (p x) (x ∷ keep p xs) (keep p xs)
+
+abbrev pub first : {A : Type 0} → (A → Bool) → List A → Option A
+first p [] = none
+first p (x ∷ xs) = cond (p x) (some x) (first p xs)
+
+abbrev pub without : {A : Type 0} → (A → Bool) → List A → List A
+without p [] = []
+without p (x ∷ xs) = cond (p x) xs (x ∷ without p xs)
+
+-- what holds of every element
+abbrev pub All : {A : Type 0} → (A → Type 0) → List A → Type 0
+All P [] = Unit {0}
+All P (x ∷ xs) = P x × All P xs

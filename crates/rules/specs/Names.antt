@@ -1,0 +1,49 @@
+-- Names: partitions, keys and co-keys, and the words whose bits hold them.
+use mathlib.Core.Bool.{Bool, _&&_}
+use Prim.Native.Nat.{ℕ, _-_, _/_, _%_, _^_}
+use lib.Bits.{bitOr}
+use lib.Dec.{eqb}
+use lib.IntN.{ℤ, pos, negsuc, natAbs, negℤ, _+ℤ_}
+use lib.Signed.{leZ}
+
+-- N3: a key is a number from -31 to 31
+abbrev pub keyInRange : ℤ → Bool
+keyInRange k = leZ (negsuc 30) k && leZ k (pos 31)
+
+-- N4: the co-key of k is -k
+abbrev pub coKey : ℤ → ℤ
+coKey k = negℤ k
+
+-- N5: a key is stored as key + 31
+abbrev pub stored : ℤ → ℕ
+stored k = natAbs (k +ℤ pos 31)
+
+-- N5: the co-key of a stored key, stored: of k + 31 it is -k + 31
+abbrev pub coStored : ℕ → ℕ
+coStored s = 62 - s
+
+-- N2, N3: a name is a partition or a key; a key is named by its stored form
+pub data Name : Type 0 where
+  partition : ℕ → Name
+  key : ℕ → Name
+
+-- N2: partition 0, the default `#`
+abbrev pub defaultPartition : ℕ
+defaultPartition = 0
+
+-- N3: key 0, the default `?`, stored
+abbrev pub defaultKey : ℕ
+defaultKey = 31
+
+-- L2: bit c of a word
+abbrev pub bit : ℕ → ℕ → Bool
+bit w c = eqb (w / 2 ^ c % 2) 1
+
+-- L2: a word with bit c set
+abbrev pub withBit : ℕ → ℕ → ℕ
+withBit w c = bitOr w (2 ^ c)
+
+-- L2, L3: the name is among those of a partition word and a key word
+unfoldable pub heldIn : ℕ → ℕ → Name → Bool
+heldIn partitions keys (partition c) = bit partitions c
+heldIn partitions keys (key k) = bit keys k
