@@ -1,0 +1,76 @@
+-- A row as the code tests it: its head, then its fields, then the words past them.
+use mathlib.Core.Path.{_≡_, sym, ap, _∙_}
+use mathlib.Core.Logic.{_⊎_, inl, inr}
+use mathlib.Core.Bool.{true, false, _&&_, and-false, false≢true}
+use mathlib.Core.List.{List}
+use Prim.Native.Nat.{ℕ, _+_, _-_, _≤_}
+use native.Mathlib.Nat.{add-sub-cancel-left}
+use native.Mathlib.Omega.{arith}
+use borrow.Author.Tests.{leb-true}
+use lib.Dec.{leb}
+use lib.ListN.{length, getD, take, drop, length-take, length-drop}
+use lib.Seq.{take-all, take-take, take-add, drop-drop, drop-at, getD-take}
+use Rattle.rules.specs.Lists.{all}
+use Rattle.rules.specs.Fields.{putField}
+use Rattle.rules.specs.Words.{isZero, headOk, rowOk}
+use Rattle.rules.proofs.ListLaws.{bool}
+
+pub few-fields : (r : List ℕ) → headOk r ≡ true → getD r 5 0 ≤ 8
+few-fields r h = go (bool (leb (getD r 5 0) 8))
+  where
+    go : (leb (getD r 5 0) 8 ≡ true) ⊎ (leb (getD r 5 0) 8 ≡ false) → getD r 5 0 ≤ 8
+    go (inl e) = leb-true (getD r 5 0) 8 e
+    go (inr e) = absurd (false≢true (simp (e, and-false) at h))
+
+-- the fields, and the words past them, as the parts of the row that are lent
+module _ (r : List ℕ) (n : ℕ) where
+  pub the-fields : take (6 + n - 6) (drop 6 r) ≡ take n (drop 6 r)
+  the-fields = rw add-sub-cancel-left
+
+  pub past-fields : length r ≡ 14 → take (length r - (6 + n)) (drop (6 + n) r) ≡ drop n (take 8 (drop 6 r))
+  past-fields h =
+      take-all (length r - (6 + n)) (drop (6 + n) r) (simp length-drop (omega arith))
+      ∙ sym (drop-drop n 6 r)
+      ∙ ap (drop n) (sym (take-all 8 (drop 6 r) (simp length-drop (omega arith))))
+
+-- a row is tested alike with and without the words that follow it
+head-cut : (r : List ℕ) → headOk (take 14 r) ≡ headOk r
+head-cut r =
+    rw (
+      getD-take 14 r 0 0 (omega arith),
+      getD-take 14 r 1 0 (omega arith),
+      getD-take 14 r 2 0 (omega arith),
+      getD-take 14 r 3 0 (omega arith),
+      getD-take 14 r 4 0 (omega arith),
+      getD-take 14 r 5 0 (omega arith),
+    )
+
+fields-cut : (r : List ℕ) → 14 ≤ length r → drop 6 (take 14 r) ≡ take 8 (drop 6 r)
+fields-cut r l = ap (drop 6) (take-add 6 8 r) ∙ drop-at (take 6 r) (take 8 (drop 6 r)) 6 (simp length-take (omega arith))
+
+row-cut : (r : List ℕ) → 14 ≤ length r → rowOk (take 14 r) ≡ rowOk r
+unfolding rowOk
+row-cut r l = rw (head-cut r, getD-take 14 r 5 0 (omega arith), fields-cut r l) (go (bool (headOk r)))
+  where
+    fs : List ℕ
+    fs = drop 6 r
+
+    n : ℕ
+    n = getD r 5 0
+
+    go : (headOk r ≡ true) ⊎ (headOk r ≡ false)
+        → (headOk r && (all putField (take n (take 8 fs)) && all isZero (drop n (take 8 (take 8 fs)))))
+        ≡ (headOk r && (all putField (take n fs) && all isZero (drop n (take 8 fs))))
+    go (inl e) = rw (take-take n 8 fs (few-fields r e), take-take 8 8 fs (omega arith))
+    go (inr e) = rw e
+
+-- the row that begins at word a, as the part of the space that is lent
+module _ (ws : List ℕ) (a : ℕ) (fits : a + 14 ≤ length ws) where
+  pub length-rest : 14 ≤ length (drop a ws)
+  length-rest = simp length-drop (omega arith)
+
+  pub length-row : length (take (a + 14 - a) (drop a ws)) ≡ 14
+  length-row = rw add-sub-cancel-left (simp (length-take, length-drop) (omega arith))
+
+  pub row-lent : rowOk (take (a + 14 - a) (drop a ws)) ≡ rowOk (drop a ws)
+  row-lent = rw add-sub-cancel-left (row-cut (drop a ws) length-rest)

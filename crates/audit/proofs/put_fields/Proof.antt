@@ -1,0 +1,59 @@
+-- `put_fields` meets its contract: what is left at i decides as the whole does.
+use Prim.Native.Nat.{_≤_, _-_}
+use mathlib.Core.Path.{_≡_, refl}
+use lib.ListN.{length, drop}
+use borrow.Author.Needs.{needs}
+use Rattle.rules.specs.Lists.{all}
+use Rattle.rules.specs.Fields.{putField}
+use Rattle.rules.proofs.Loops.{all-fails, all-goes-on, all-ends}
+use Rattle.audit.proofs.put_fields.Statement.{statement}
+use Rattle.audit.proofs.put_fields.Tie as tie
+
+abbrev Inv-loop : tie.InvT-loop
+Inv-loop fields i₀ i = (i ≤ length fields) × (all putField (drop i fields) ≡ all putField fields)
+
+abbrev μ-loop : tie.MeasureT-loop
+μ-loop fields i₀ i = length fields - i
+
+loop-holds : tie.Need-loop-holds Inv-loop μ-loop
+loop-holds c = (search needs, refl)
+
+mul-put-field : tie.Need-mul-put-field Inv-loop μ-loop
+mul-put-field c = search needs
+
+shared-slice-read-put-field : tie.Need-shared-slice-read-put-field Inv-loop μ-loop
+shared-slice-read-put-field c = search needs
+
+put-field-requires : tie.Need-put-field-requires Inv-loop μ-loop
+put-field-requires c κs = search needs
+
+returns : tie.Need-returns Inv-loop μ-loop
+returns c = all-fails _ _ _ _ (c .before .before .before .before .loop .inv .1) (c .before .before .before .loop-test .taken) _ (c .before .put-field .ensures) (c .if1 .taken)
+
+add-i : tie.Need-add-i Inv-loop μ-loop
+add-i c = search needs
+
+loop-less : tie.Need-loop-less Inv-loop μ-loop
+loop-less c = search needs
+
+loop-again : tie.Need-loop-again Inv-loop μ-loop
+loop-again c = (search needs, all-goes-on _ _ _ _ (c .before .before .before .before .loop .inv .1) (c .before .before .before .loop-test .taken) _ (c .before .put-field .ensures) (c .if1 .left))
+
+returns-2 : tie.Need-returns-2 Inv-loop μ-loop
+returns-2 c = all-ends _ _ _ _ (c .before .loop .inv .1) (c .loop-test .left)
+
+pub put-fields-spec : {M : Type 1} → statement M
+put-fields-spec =
+    tie.close
+    (tie.spec
+    Inv-loop
+    μ-loop
+    loop-holds
+    mul-put-field
+    shared-slice-read-put-field
+    put-field-requires
+    returns
+    add-i
+    loop-less
+    loop-again
+    returns-2)

@@ -1,0 +1,4 @@
+pub mod Store
+pub mod Tails
+pub mod Holding
+pub mod Opening

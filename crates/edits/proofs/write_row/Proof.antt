@@ -1,0 +1,52 @@
+-- `write_row` meets its contract.
+use Prim.Native.Nat.{ℕ, _-_}
+use mathlib.Core.Path.{_≡_, ap, _∙_}
+use mathlib.Core.List.{List, [], _∷_, _++_}
+use native.Mathlib.Omega.{arith}
+use lib.ListN.{length, take, drop}
+use Rattle.rules.specs.Words.{zeros}
+use Rattle.edits.proofs.Tails.{after-head, tail-length}
+use borrow.Author.Needs.{needs}
+use Rattle.edits.proofs.write_row.Statement.{statement}
+use Rattle.edits.proofs.write_row.Tie as tie
+
+write-head-requires : tie.Need-write-head-requires
+write-head-requires c κs = search needs
+
+sub-write-fields : tie.Need-sub-write-fields
+sub-write-fields c = search needs
+
+part-write-fields-start : tie.Need-part-write-fields-start
+part-write-fields-start c = search needs
+
+part-write-fields-end : tie.Need-part-write-fields-end
+part-write-fields-end c = search needs
+
+write-fields-requires : tie.Need-write-fields-requires
+write-fields-requires c κs = search needs
+
+same-length : tie.Need-same-length
+same-length c = search needs
+
+returns : tie.Need-returns
+returns c =
+    let a = c .before .before .before .before .before .before .before .before .before .before .args in
+    let fs = a .fields .now in
+    let h = a .writer ∷ a .rpart ∷ a .rkey ∷ a .tpart ∷ a .tkey ∷ length fs ∷ [] in
+    let last = c .before .before .before .before .before .before .write-head .last .0 in
+    let kept : length last ≡ length (a .row .now) = c .before .before .before .before .before .before .write-head .kept .0 in
+    let eight : length (take (length last - 6) (drop 6 last)) ≡ 8 = tail-length last 6 ∙ omega arith in
+    after-head h _ last _ (c .before .before .before .before .before .before .write-head .ensures)
+    ∙ ap (λ (x : List ℕ). h ++ x) (c .before .before .write-fields .ensures ∙ ap (λ (n : ℕ). fs ++ zeros (n - length fs)) eight)
+
+pub write-row-spec : {M : Type 1} → statement M
+write-row-spec =
+    tie.close
+    (tie.spec
+    write-head-requires
+    sub-write-fields
+    part-write-fields-start
+    part-write-fields-end
+    write-fields-requires
+    same-length
+    returns)

@@ -1,0 +1,185 @@
+// The edits of a space's words: a row added, a row removed, names held, fields copied out.
+use words::Field;
+ghost use mathlib.Core.Path.{_≡_};
+ghost use mathlib.Core.Bool.{true};
+ghost use mathlib.Core.List.{[], _∷_, _++_, map};
+ghost use Prim.Native.Nat.{suc, _-_, _<_, _≤_};
+ghost use lib.ListN.{length, take, drop, getD};
+ghost use Rattle.rules.specs.Names.{withBit};
+ghost use Rattle.rules.specs.Fields.{field, nameIn, namesIn};
+ghost use Rattle.rules.specs.State.{giveAll, withEntries};
+ghost use Rattle.rules.specs.Calls.{opened};
+ghost use Rattle.rules.specs.Words.{zeros, rowOf, encode, decode, sound};
+ghost use Rattle.edits.specs.Row.{entry};
+
+// C4: later rows of the part move up one place, and its last row becomes 0.
+fn close_up(part: &mut [u64])
+    requires { ⌜ 14 ≤ length (now part) ⌝ }
+    ensures { λ _. ⌜ now (part .exit) ≡ drop 14 (now (part .entry)) ++ zeros 14 ⌝ }
+{
+    let n = part.len() - 14;
+    let mut i = 0;
+    while i < n {
+        part[i] = part[i + 14];
+        i += 1;
+    }
+    clear(&mut part[n..]);
+}
+
+pub fn clear(part: &mut [u64])
+    ensures { λ _. ⌜ now (part .exit) ≡ zeros (length (now (part .entry))) ⌝ }
+{
+    let mut i = 0;
+    while i < part.len() {
+        part[i] = 0;
+        i += 1;
+    }
+}
+
+// C4: the entry in that place is removed.
+pub fn remove_row(space: &mut [u64], row: usize)
+    requires { ⌜ (sound (now space) ≡ true) × (row < getD (now space) 0 0) ⌝ }
+    ensures { λ _. ⌜ now (space .exit) ≡ encode (withEntries (take row (decode (now (space .entry)) .entries) ++ drop (suc row) (decode (now (space .entry)) .entries)) (decode (now (space .entry)))) ⌝ }
+{
+    let live = space[0] as usize;
+    let at = 17 + 14 * row;
+    let end = 17 + 14 * live;
+    close_up(&mut space[at..end]);
+    space[0] = (live - 1) as u64;
+}
+
+// C3: the source comes first in the destination, and the rest is kept.
+pub fn copy_in(src: &[u64], dst: &mut [u64])
+    requires { ⌜ length (now src) ≤ length (now dst) ⌝ }
+    ensures { λ _. ⌜ now (dst .exit) ≡ now (src .entry) ++ drop (length (now (src .entry))) (now (dst .entry)) ⌝ }
+{
+    let mut i = 0;
+    while i < src.len() {
+        dst[i] = src[i];
+        i += 1;
+    }
+}
+
+// L4: the 14 words of an entry's row.
+fn write_row(
+    row: &mut [u64],
+    writer: u64,
+    rpart: u64,
+    rkey: u64,
+    tpart: u64,
+    tkey: u64,
+    fields: &[u64],
+)
+    requires { ⌜ (length (now row) ≡ 14) × (length (now fields) ≤ 8) ⌝ }
+    ensures { λ _. ⌜ now (row .exit) ≡ rowOf (entry writer rpart rkey tpart tkey (now (fields .entry))) ⌝ }
+{
+    write_head(row, writer, rpart, rkey, tpart, tkey, fields.len() as u64);
+    write_fields(&mut row[6..], fields);
+}
+
+// L4: the words before the fields.
+fn write_head(row: &mut [u64], writer: u64, rpart: u64, rkey: u64, tpart: u64, tkey: u64, n: u64)
+    requires { ⌜ 6 ≤ length (now row) ⌝ }
+    ensures { λ _. ⌜ now (row .exit) ≡ (writer ∷ rpart ∷ rkey ∷ tpart ∷ tkey ∷ n ∷ []) ++ drop 6 (now (row .entry)) ⌝ }
+{
+    row[0] = writer;
+    row[1] = rpart;
+    row[2] = rkey;
+    row[3] = tpart;
+    row[4] = tkey;
+    row[5] = n;
+}
+
+// L4: the fields, and 0 past them.
+fn write_fields(part: &mut [u64], fields: &[u64])
+    requires { ⌜ length (now fields) ≤ length (now part) ⌝ }
+    ensures { λ _. ⌜ now (part .exit) ≡ now (fields .entry) ++ zeros (length (now (part .entry)) - length (now (fields .entry))) ⌝ }
+{
+    let n = fields.len();
+    copy_in(fields, part);
+    clear(&mut part[n..]);
+}
+
+// C2: the entry becomes the newest.
+pub fn add_row(
+    space: &mut [u64],
+    writer: u64,
+    rpart: u64,
+    rkey: u64,
+    tpart: u64,
+    tkey: u64,
+    fields: &[u64],
+)
+    requires { ⌜ (sound (now space) ≡ true) × (getD (now space) 0 0 < 128) × (length (now fields) ≤ 8) ⌝ }
+    ensures { λ _. ⌜ now (space .exit) ≡ encode (withEntries (decode (now (space .entry)) .entries ++ (entry writer rpart rkey tpart tkey (now (fields .entry)) ∷ [])) (decode (now (space .entry)))) ⌝ }
+{
+    let live = space[0] as usize;
+    let at = 17 + 14 * live;
+    let end = at + 14;
+    write_row(
+        &mut space[at..end],
+        writer,
+        rpart,
+        rkey,
+        tpart,
+        tkey,
+        fields,
+    );
+    space[0] = (live + 1) as u64;
+}
+
+// C3: the party holds the name in the field, if it carries one.
+fn hold_name(space: &mut [u64], party: usize, w: u64)
+    requires { ⌜ (sound (now space) ≡ true) × (party < 8) ⌝ }
+    ensures { λ _. ⌜ now (space .exit) ≡ encode (giveAll party (nameIn (field w)) (decode (now (space .entry)))) ⌝ }
+{
+    let f = words::field_of(w);
+    match f {
+        Field::Message(_) => {}
+        Field::Partition(c) => {
+            let partitions = words::with_bit(space[1 + party], c);
+            space[1 + party] = partitions;
+        }
+        Field::Key(k) => {
+            let keys = words::with_bit(space[9 + party], k);
+            space[9 + party] = keys;
+        }
+        Field::Wildcard => {}
+        Field::Bad => {}
+    }
+}
+
+// C3: the party holds each name in the fields.
+pub fn hold_names(space: &mut [u64], party: usize, fields: &[u64])
+    requires { ⌜ (sound (now space) ≡ true) × (party < 8) ⌝ }
+    ensures { λ _. ⌜ now (space .exit) ≡ encode (giveAll party (namesIn (now (fields .entry))) (decode (now (space .entry)))) ⌝ }
+{
+    let mut i = 0;
+    while i < fields.len() {
+        hold_name(space, party, fields[i]);
+        i += 1;
+    }
+}
+
+// C1: each word of the source, with the bit set.
+fn with_all(src: &[u64], dst: &mut [u64], c: u64)
+    requires { ⌜ (length (now src) ≡ length (now dst)) × (c < 64) ⌝ }
+    ensures { λ _. ⌜ now (dst .exit) ≡ map (λ w. withBit w c) (now (src .entry)) ⌝ }
+{
+    let mut i = 0;
+    while i < src.len() {
+        let w = words::with_bit(src[i], c);
+        dst[i] = w;
+        i += 1;
+    }
+}
+
+// C1: no entries, the roster's holdings, and the defaults for everyone.
+pub fn fill(space: &mut [u64], roster: &[u64])
+    requires { ⌜ (length (now space) ≡ 1809) × (length (now roster) ≡ 16) ⌝ }
+    ensures { λ _. ⌜ now (space .exit) ≡ encode (opened (now (roster .entry))) ⌝ }
+{
+    clear(space);
+    with_all(&roster[0..8], &mut space[1..9], 0);
+    with_all(&roster[8..16], &mut space[9..17], 31);
+}

@@ -1,0 +1,122 @@
+-- A live row of a sound space: the entry that it holds, and when the entry matches, by the row's words.
+use mathlib.Core.Path.{_≡_, refl, sym, ap, _∙_}
+use mathlib.Core.Logic.{_⊎_, inl, inr}
+use mathlib.Core.Bool.{Bool, true, false, _&&_, and-comm}
+use mathlib.Core.List.{List, _∷_}
+use Prim.Native.Nat.{ℕ, zero, suc, _+_, _-_, _*_, _≤_, _<_}
+use native.Mathlib.Omega.{arith}
+use native.Mathlib.Numerals.{add-one}
+use borrow.Author.Tests.{eq-eqb, ne-eqb, eqb-true, eqb-false}
+use lib.Dec.{eqb}
+use lib.ListN.{length, getD, drop, length-drop, drop-of-length-le}
+use lib.Seq.{getD-take, getD-drop, drop-drop, drop-cons}
+use Rattle.rules.specs.Names.{coStored}
+use Rattle.rules.specs.Fields.{fieldAgrees}
+use Rattle.rules.specs.Matching.{pair, Entry, pairFor, fieldsAgree, matches}
+use Rattle.rules.specs.Words.{entryAt, entriesAt, decode, rowOk, rowsOk, sound}
+use Rattle.rules.proofs.ListLaws.{bool, and-left, and-right}
+use Rattle.rules.proofs.Rows.{EntryOk}
+use Rattle.rules.proofs.Back.{SoundFacts, sound-facts, row-back}
+use Rattle.search.specs.Place.{meant}
+use Rattle.search.specs.Pairs.{offset, pairAt}
+use Rattle.search.specs.declared.Op.{Op}
+use Rattle.search.specs.declared.Op.the-variants.{Reading, Taking}
+
+-- L4: the entry of row r
+abbrev pub entryOn : List ℕ → ℕ → Entry
+entryOn ws r = entryAt (drop (17 + 14 * r) ws)
+
+pub record LiveRow (ws : List ℕ) (r : ℕ) : Type 0 where
+  pub split : drop r (decode ws .entries) ≡ entryOn ws r ∷ drop (r + 1) (decode ws .entries)
+  pub ok : EntryOk (entryOn ws r)
+  pub count : length (entryOn ws r .fields) ≡ getD ws (17 + 14 * r + 5) 0
+
+rows-at : (n : ℕ) (rows : List ℕ) (r : ℕ) → r < n → rowsOk n rows ≡ true
+    → (drop r (entriesAt n rows) ≡ entryAt (drop (14 * r) rows) ∷ drop (suc r) (entriesAt n rows)) × (rowOk (drop (14 * r) rows) ≡ true)
+rows-at zero rows r l h = absurd (omega arith)
+rows-at (suc n) rows zero l h = (refl, and-left (rowOk rows) (rowsOk n (drop 14 rows)) h)
+rows-at (suc n) rows (suc r) l h =
+    let k = rows-at n (drop 14 rows) r (omega arith) (and-right (rowOk rows) (rowsOk n (drop 14 rows)) h) in
+    let a : 14 + 14 * r ≡ 14 * suc r = omega arith in
+    let e : drop (14 * r) (drop 14 rows) ≡ drop (14 * suc r) rows = drop-drop (14 * r) 14 rows ∙ ap (λ (n : ℕ). drop n rows) a in
+    (rw e at (k .0), rw e at (k .1))
+
+pub live-row : (ws : List ℕ) (r : ℕ) → sound ws ≡ true → r < getD ws 0 0 → LiveRow ws r
+unfolding decode
+live-row ws r s l =
+    let f : SoundFacts ws = sound-facts ws s in
+    let fits : 17 + 14 * r + 14 ≤ length ws = omega (arith, f .len, f .count) in
+    let e : drop (14 * r) (drop 17 ws) ≡ drop (17 + 14 * r) ws = drop-drop (14 * r) 17 ws in
+    let k = rows-at (getD ws 0 0) (drop 17 ws) r l (f .rows) in
+    let row : rowOk (drop (17 + 14 * r) ws) ≡ true = rw e at (k .1) in
+    let b = row-back (drop (17 + 14 * r) ws) (rw length-drop (omega arith)) row in
+    record {
+      split = rw (add-one, ← e) (k .0);
+      ok = b .0;
+      count = ap (λ (row : List ℕ). getD row 5 0) (b .1) ∙ getD-take 14 (drop (17 + 14 * r) ws) 5 0 (omega arith) ∙ getD-drop (17 + 14 * r) ws 5 0;
+    }
+
+-- ---- when its entry matches
+
+eqb-comm : (a b : ℕ) → eqb a b ≡ eqb b a
+eqb-comm a b = go (bool (eqb b a))
+  where
+    go : (eqb b a ≡ true) ⊎ (eqb b a ≡ false) → eqb a b ≡ eqb b a
+    go (inl h) = eq-eqb a b (sym (eqb-true b a h)) ∙ sym h
+    go (inr h) = ne-eqb a b (λ e. eqb-false b a h (sym e)) ∙ sym h
+
+-- two stored keys are equal exactly when their co-keys are
+co-eqb : (a b : ℕ) → a ≤ 62 → b ≤ 62 → eqb (coStored a) (coStored b) ≡ eqb a b
+co-eqb a b l k = go (bool (eqb a b))
+  where
+    go : (eqb a b ≡ true) ⊎ (eqb a b ≡ false) → eqb (coStored a) (coStored b) ≡ eqb a b
+    go (inl h) = rw (eqb-true a b h) (eq-eqb (62 - b) (62 - b) refl ∙ sym (eq-eqb b b refl))
+    go (inr h) = ne-eqb (62 - a) (62 - b) (λ e. eqb-false a b h (omega arith)) ∙ sym h
+
+fields-last : (a f p : Bool) → (a && (f && p)) ≡ ((a && p) && f)
+fields-last true f p = and-comm f p
+fields-last false f p = refl
+
+pub offset-le : (op : Op) (n : ℕ) → n ≡ offset op → n ≤ 3
+offset-le Reading n e = omega arith
+offset-le Taking n e = omega arith
+
+pub pair-count : (ws : List ℕ) (at o p k n : ℕ) (x : Bool) → x ≡ pairAt ws at o p k n → x ≡ true → getD ws (at + 5) 0 ≡ n
+unfolding pairAt
+pair-count ws at o p k n x e h = eqb-true (getD ws (at + 5) 0) n (and-left (eqb (getD ws (at + 5) 0) n) _ (sym e ∙ h))
+
+module _ {ws : List ℕ} {r : ℕ} (row : LiveRow ws r) where
+  pair-on : (op : Op) → (pairFor (meant op) (entryOn ws r) .partition ≡ getD ws (17 + 14 * r + offset op) 0)
+      × (pairFor (meant op) (entryOn ws r) .key ≡ getD ws (17 + 14 * r + (offset op + 1)) 0)
+      × (pairFor (meant op) (entryOn ws r) .key ≤ 62)
+  pair-on Reading = (getD-drop (17 + 14 * r) ws 1 0, getD-drop (17 + 14 * r) ws 2 0, row .ok .readOk .keyOk)
+  pair-on Taking = (getD-drop (17 + 14 * r) ws 3 0, getD-drop (17 + 14 * r) ws 4 0, row .ok .takeOk .keyOk)
+
+  -- M1 to M4, as the search goes about them: the pair, then the fields
+  pub match-on : (op : Op) (o p k : ℕ) (t : List ℕ) (x b d : Bool) → o ≡ offset op → k ≤ 62 → x ≡ pairAt ws (17 + 14 * r) o p k (length t) → x ≡ b
+      → fieldsAgree t (entryOn ws r .fields) ≡ d → matches (meant op) (pair p (coStored k)) t (entryOn ws r) ≡ (b && d)
+  unfolding matches pairAt
+  match-on op o p k t x b d e l h y g =
+      let q = pair-on op in
+      let key : ℕ = pairFor (meant op) (entryOn ws r) .key in
+      fields-last (eqb (length t) (length (entryOn ws r .fields))) (fieldsAgree t (entryOn ws r .fields)) _
+      ∙ rw (co-eqb key k (q .2) l, q .0, q .1, ← e, eqb-comm (length t) (length (entryOn ws r .fields)), row .count, ← h, y, g)
+
+  field-on : (i : ℕ) → i < length (entryOn ws r .fields) → getD (entryOn ws r .fields) i 0 ≡ getD ws (17 + 14 * r + (6 + i)) 0
+  field-on i l =
+      let word : getD (drop (17 + 14 * r) ws) 5 0 ≡ getD ws (17 + 14 * r + 5) 0 = getD-drop (17 + 14 * r) ws 5 0 in
+      let below : i < getD (drop (17 + 14 * r) ws) 5 0 = omega (arith, row .count) in
+      getD-take (getD (drop (17 + 14 * r) ws) 5 0) (drop 6 (drop (17 + 14 * r) ws)) i 0 below
+      ∙ getD-drop 6 (drop (17 + 14 * r) ws) i 0
+      ∙ getD-drop (17 + 14 * r) ws (6 + i) 0
+
+  -- M2: what is left of the fields at i is one field and what is left at i + 1
+  pub fields-on : (t : List ℕ) (i : ℕ) (x b : Bool) → i < length t → length (entryOn ws r .fields) ≡ length t
+      → x ≡ fieldAgrees (getD t i 0) (getD ws (17 + 14 * r + (6 + i)) 0) → x ≡ b
+      → fieldsAgree (drop i t) (drop i (entryOn ws r .fields)) ≡ (b && fieldsAgree (drop (i + 1) t) (drop (i + 1) (entryOn ws r .fields)))
+  fields-on t i x b l n h y =
+      let k : i < length (entryOn ws r .fields) = omega arith in
+      rw (add-one, ← y, h, ← (field-on i k), drop-cons t i 0, drop-cons (entryOn ws r .fields) i 0)
+
+pub fields-end : (t fs : List ℕ) (i : ℕ) → length t ≤ i → fieldsAgree (drop i t) (drop i fs) ≡ true
+fields-end t fs i l = rw (drop-of-length-le t l)

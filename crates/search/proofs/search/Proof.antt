@@ -1,0 +1,233 @@
+-- The search answers the place of the oldest match. At a row, no older entry has matched; at a field, those before it agree.
+use mathlib.Core.Path.{_≡_, refl, sym, _∙_}
+use mathlib.Core.Logic.{⊎-elim}
+use mathlib.Core.Bool.{Bool, true, false}
+use mathlib.Core.List.{List}
+use Prim.Native.Nat.{ℕ, _-_, _≤_}
+use native.Mathlib.Omega.{arith}
+use native.Mathlib.Nat.{le-antisymm, ne-of-lt}
+use borrow.Author.Needs.{needs}
+use borrow.Author.Tests.{not-true, not-false, eq-eqb, ne-eqb}
+use lib.Dec.{eqb}
+use lib.ListN.{length, drop}
+use Rattle.rules.specs.Names.{coStored}
+use Rattle.rules.specs.Matching.{Entry, fieldsAgree, matches}
+use Rattle.rules.specs.Matching as matching
+use Rattle.rules.specs.Words.{decode, sound}
+use Rattle.rules.proofs.Back.{sound-facts, decode-len}
+use Rattle.search.specs.Place.{meant, place}
+use Rattle.search.specs.Pairs.{offset}
+use Rattle.search.specs.declared.Op.{Op}
+use Rattle.search.proofs.Places.{past, past-none, hit, miss, over}
+use Rattle.search.proofs.LiveRows.{entryOn, LiveRow, live-row, offset-le, pair-count, match-on, fields-on, fields-end}
+use Rattle.search.proofs.search.Statement.{statement}
+use Rattle.search.proofs.search.Tie as tie
+
+abbrev sought : Op → ℕ → ℕ → List ℕ → Entry → Bool
+sought op partition cokey template = matches (meant op) (matching.pair partition (coStored cokey)) template
+
+-- at a row: none of the entries before it matches
+record Rows (space : List ℕ) (partition cokey : ℕ) (template : List ℕ) (pair live row : ℕ) : Type 0 where
+  isSound : sound space ≡ true
+  size : length space ≡ 1809
+  few : live ≤ 128
+  pairBound : pair ≤ 3
+  keyBound : cokey ≤ 62
+  bound : row ≤ live
+  older : (op : Op) → pair ≡ offset op
+      → place (sought op partition cokey template) (decode space .entries) ≡ past row (place (sought op partition cokey template) (drop row (decode space .entries)))
+
+-- at a field: those before it agree
+record Fields (space template : List ℕ) (row i : ℕ) : Type 0 where
+  live : LiveRow space row
+  same : length (entryOn space row .fields) ≡ length template
+  few : length template ≤ 8
+  bound : i ≤ length template
+  rest : fieldsAgree template (entryOn space row .fields) ≡ fieldsAgree (drop i template) (drop i (entryOn space row .fields))
+
+abbrev Inv-fields : tie.InvT-fields
+Inv-fields space partition cokey template pair live count row at i₀ i = Fields space template row i
+
+abbrev μ-fields : tie.MeasureT-fields
+μ-fields space partition cokey template pair live count row at i₀ i = length template - i
+
+abbrev Inv-rows : tie.InvT-rows
+Inv-rows space partition cokey template pair live count row₀ row = Rows space partition cokey template pair live row
+
+abbrev μ-rows : tie.MeasureT-rows
+μ-rows space partition cokey template pair live count row₀ row = live - row
+
+-- all fields agree exactly when the loop over them has come to their end
+agreed : (c : tie.Left-fields Inv-fields μ-fields Inv-rows μ-rows)
+    → fieldsAgree (c .before .before .before .before .before .before .before .before .before .before .args .template .now) (entryOn (c .before .before .before .before .before .before .before .before .before .before .args .space .now) (c .before .before .before .before .before .rows .row) .fields)
+    ≡ eqb (c .before .fields .i) (length (c .before .before .before .before .before .before .before .before .before .before .args .template .now))
+agreed c =
+    let inv = c .before .fields .inv in
+    inv .rest
+    ∙ ⊎-elim
+    (λ w. fields-end _ _ _ (w .left) ∙ sym (eq-eqb _ _ (le-antisymm (inv .bound) (w .left))))
+    (λ w. fields-on (inv .live) _ _ _ false (w .0 .taken) (inv .same) (w .3 .ensures) (not-true _ (w .4 .taken)) ∙ sym (ne-eqb _ _ (ne-of-lt (w .0 .taken))))
+    (c .fields-test .came)
+
+pair-of-requires : tie.Need-pair-of-requires Inv-fields μ-fields Inv-rows μ-rows
+pair-of-requires c κs = search needs
+
+shared-slice-read-live : tie.Need-shared-slice-read-live Inv-fields μ-fields Inv-rows μ-rows
+shared-slice-read-live c = let f = sound-facts _ (c .before .before .before .before .pre .0) in omega (arith, f .len)
+
+rows-holds : tie.Need-rows-holds Inv-fields μ-fields Inv-rows μ-rows
+rows-holds c =
+    let start = c .before .before .before .before in
+    let f = sound-facts _ (start .pre .0) in
+    record {
+      isSound = start .pre .0;
+      size = f .len;
+      few = f .count;
+      pairBound = offset-le (start .args .op) _ (c .before .pair-of .ensures);
+      keyBound = start .pre .1;
+      bound = omega arith;
+      older = λ op e. past-none _;
+    }
+
+mul-at : tie.Need-mul-at Inv-fields μ-fields Inv-rows μ-rows
+mul-at c = search needs
+
+add-at : tie.Need-add-at Inv-fields μ-fields Inv-rows μ-rows
+add-at c = search needs
+
+pair-agrees-requires : tie.Need-pair-agrees-requires Inv-fields μ-fields Inv-rows μ-rows
+pair-agrees-requires c κs = search needs
+
+fields-holds : tie.Need-fields-holds Inv-fields μ-fields Inv-rows μ-rows
+fields-holds c =
+    let inv = c .before .before .before .rows .inv in
+    let row = live-row _ _ (inv .isSound) (c .before .before .rows-test .taken) in
+    let same = row .count ∙ pair-count _ _ _ _ _ _ _ (c .before .pair-agrees .ensures) (c .if1 .taken) in
+    record { live = row; same = same; few = rw same at (row .ok .few); bound = omega arith; rest = refl }
+
+mul-field-agrees : tie.Need-mul-field-agrees Inv-fields μ-fields Inv-rows μ-rows
+mul-field-agrees c = search needs
+
+shared-slice-read-field-agrees :
+    tie.Need-shared-slice-read-field-agrees Inv-fields μ-fields Inv-rows μ-rows
+shared-slice-read-field-agrees c = search needs
+
+add-field-agrees : tie.Need-add-field-agrees Inv-fields μ-fields Inv-rows μ-rows
+add-field-agrees c = search needs
+
+add-field-agrees-2 : tie.Need-add-field-agrees-2 Inv-fields μ-fields Inv-rows μ-rows
+add-field-agrees-2 c = search needs
+
+mul-field-agrees-2 : tie.Need-mul-field-agrees-2 Inv-fields μ-fields Inv-rows μ-rows
+mul-field-agrees-2 c = search needs
+
+shared-slice-read-field-agrees-2 :
+    tie.Need-shared-slice-read-field-agrees-2 Inv-fields μ-fields Inv-rows μ-rows
+shared-slice-read-field-agrees-2 c = search needs
+
+field-agrees-requires : tie.Need-field-agrees-requires Inv-fields μ-fields Inv-rows μ-rows
+field-agrees-requires c κs = search needs
+
+add-i : tie.Need-add-i Inv-fields μ-fields Inv-rows μ-rows
+add-i c = search needs
+
+fields-less : tie.Need-fields-less Inv-fields μ-fields Inv-rows μ-rows
+fields-less c = search needs
+
+fields-again : tie.Need-fields-again Inv-fields μ-fields Inv-rows μ-rows
+fields-again c =
+    let inv = c .before .before .before .before .before .fields .inv in
+    record {
+      live = inv .live;
+      same = inv .same;
+      few = inv .few;
+      bound = omega arith;
+      rest = inv .rest ∙ fields-on (inv .live) _ _ _ true (c .before .before .before .before .fields-test .taken) (inv .same) (c .before .field-agrees .ensures) (not-false _ (c .if2 .left));
+    }
+
+add-row : tie.Need-add-row Inv-fields μ-fields Inv-rows μ-rows
+add-row c = search needs
+
+rows-less : tie.Need-rows-less Inv-fields μ-fields Inv-rows μ-rows
+rows-less c = search needs
+
+rows-again : tie.Need-rows-again Inv-fields μ-fields Inv-rows μ-rows
+rows-again c =
+    let inv = c .before .before .before .rows .inv in
+    let live = live-row _ _ (inv .isSound) (c .before .before .rows-test .taken) in
+    record {
+      isSound = inv .isSound;
+      size = inv .size;
+      few = inv .few;
+      pairBound = inv .pairBound;
+      keyBound = inv .keyBound;
+      bound = omega arith;
+      older = λ op e.
+          inv .older op e
+          ∙ miss _ _ _ _ _ (live .split)
+          (⊎-elim
+          (λ w.
+          let left : tie.Left-fields Inv-fields μ-fields Inv-rows μ-rows =
+          record { before = record { before = record { before = c .before; if1 = w .0 }; fields = w .1 }; fields-test = w .2 } in
+          match-on live op _ _ _ _ _ true false e (inv .keyBound) (c .before .pair-agrees .ensures) (w .0 .taken) (agreed left ∙ ne-eqb _ _ (w .3 .left)))
+          (λ w. match-on live op _ _ _ _ _ false _ e (inv .keyBound) (c .before .pair-agrees .ensures) (w .left) refl)
+          (c .if1 .came));
+    }
+
+returns : tie.Need-returns Inv-fields μ-fields Inv-rows μ-rows
+returns c =
+    let start = c .before .before .before .before .before .before .before in
+    let inv = c .before .before .rows .inv in
+    let e = c .before .before .before .before .pair-of .ensures in
+    ⊎-elim
+    (λ w. absurd (omega arith))
+    (λ w.
+    let left : tie.Left-fields Inv-fields μ-fields Inv-rows μ-rows =
+    record {
+      before = record { before = record { before = record { before = record { before = c .before .before; rows-test = w .0 }; pair-agrees = w .1 }; if1 = w .2 }; fields = w .3 };
+      fields-test = w .4;
+    } in
+    let live = w .3 .inv .live in
+    sym
+    (inv .older (start .args .op) e
+    ∙ hit _ _ _ _ _ (live .split)
+    (match-on live (start .args .op) _ _ _ (start .args .template .now) _ true true e (inv .keyBound) (w .1 .ensures) (w .2 .taken)
+    (agreed left ∙ eq-eqb _ _ (w .5 .taken)))))
+    (c .before .rows-test .came)
+
+returns-2 : tie.Need-returns-2 Inv-fields μ-fields Inv-rows μ-rows
+returns-2 c =
+    let inv = c .before .before .rows .inv in
+    let op = c .before .before .before .before .before .before .before .args .op in
+    sym (inv .older op (c .before .before .before .before .pair-of .ensures) ∙ over _ _ _ _ (decode-len _) (c .if4 .left))
+
+pub search-spec : {M : Type 1} → statement M
+search-spec =
+    tie.close
+    (tie.spec
+    Inv-fields
+    μ-fields
+    Inv-rows
+    μ-rows
+    pair-of-requires
+    shared-slice-read-live
+    rows-holds
+    mul-at
+    add-at
+    pair-agrees-requires
+    fields-holds
+    mul-field-agrees
+    shared-slice-read-field-agrees
+    add-field-agrees
+    add-field-agrees-2
+    mul-field-agrees-2
+    shared-slice-read-field-agrees-2
+    field-agrees-requires
+    add-i
+    fields-less
+    fields-again
+    add-row
+    rows-less
+    rows-again
+    returns
+    returns-2)

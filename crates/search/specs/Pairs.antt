@@ -1,0 +1,18 @@
+-- What the search tests of a row before its fields, on the words.
+use mathlib.Core.Bool.{Bool, _&&_}
+use mathlib.Core.List.{List}
+use Prim.Native.Nat.{ℕ, _+_}
+use lib.Dec.{eqb}
+use lib.ListN.{getD}
+use Rattle.search.specs.declared.Op.{Op}
+use Rattle.search.specs.declared.Op.the-variants.{Reading, Taking}
+
+-- L4: where a row has the pair that the operation goes by
+abbrev pub offset : Op → ℕ
+offset Reading = 1
+offset Taking = 3
+
+-- M1, M3, M4: the row at that word has the count, and the partition and the key at that offset
+unfoldable pub pairAt : List ℕ → ℕ → ℕ → ℕ → ℕ → ℕ → Bool
+pairAt ws at pair partition key count =
+    eqb (getD ws (at + 5) 0) count && (eqb (getD ws (at + pair) 0) partition && eqb (getD ws (at + (pair + 1)) 0) key)

@@ -1,0 +1,82 @@
+// The search for the oldest entry that matches a template.
+ghost use mathlib.Core.Path.{_≡_};
+ghost use mathlib.Core.Bool.{true};
+ghost use Prim.Native.Nat.{_+_, _≤_};
+ghost use lib.ListN.{length};
+ghost use Rattle.rules.specs.Names.{coStored};
+ghost use Rattle.rules.specs.Matching.{pair, matches};
+ghost use Rattle.rules.specs.Words.{decode, sound};
+ghost use Rattle.search.specs.Place.{meant, place};
+ghost use Rattle.search.specs.Pairs.{offset, pairAt};
+
+// C3, C4: which pair of an entry the search goes by.
+pub enum Op {
+    Reading,
+    Taking,
+}
+
+// The place of the oldest match among the live entries.
+pub enum Found {
+    At(usize),
+    Nothing,
+}
+
+// M5: left at the first row whose fields all agree, and each row at the first field that does not.
+pub fn search(space: &[u64], op: Op, partition: u64, cokey: u64, template: &[u64]) -> Found
+    requires { ⌜ (sound (now space) ≡ true) × (cokey ≤ 62) ⌝ }
+    ensures { λ r. ⌜ r ≡ place (matches (meant op) (pair partition (coStored cokey)) (now (template .entry))) (decode (now (space .entry)) .entries) ⌝ }
+{
+    let pair = pair_of(op);
+    let live = space[0] as usize;
+    let count = template.len();
+    let mut row = 0;
+    'rows: while row < live {
+        let at = 17 + 14 * row;
+        if pair_agrees(space, at, pair, partition, cokey, count as u64) {
+            let mut i = 0;
+            'fields: while i < count {
+                if !words::field_agrees(template[i], space[at + (6 + i)]) {
+                    break 'fields;
+                }
+                i += 1;
+            }
+            if i == count {
+                break 'rows;
+            }
+        }
+        row += 1;
+    }
+    if row < live {
+        Found::At(row)
+    } else {
+        Found::Nothing
+    }
+}
+
+// L4: where a row has the operation's pair.
+fn pair_of(op: Op) -> usize
+    ensures { λ r. ⌜ r ≡ offset op ⌝ }
+{
+    match op {
+        Op::Reading => 1,
+        Op::Taking => 3,
+    }
+}
+
+// M1, M3, M4: the row at that word has the count, and the pair.
+fn pair_agrees(
+    space: &[u64],
+    at: usize,
+    pair: usize,
+    partition: u64,
+    cokey: u64,
+    count: u64,
+) -> bool
+    requires { ⌜ (at + 14 ≤ length (now space)) × (pair ≤ 3) ⌝ }
+    ensures { λ r. ⌜ r ≡ pairAt (now (space .entry)) at pair partition cokey count ⌝ }
+{
+    let fields = space[at + 5] == count;
+    let partitions = space[at + pair] == partition;
+    let keys = space[at + (pair + 1)] == cokey;
+    fields & (partitions & keys)
+}
