@@ -1,0 +1,375 @@
+// Every refusal of every call, and for every two neighbours of the table a call that both would turn away.
+// A line says the call, what is wrong with it, its answer, and whether a word of space or result has changed.
+use space::Answer;
+
+// Field words with value 0.
+const PARTITION: u64 = 4294967296;
+
+const KEY: u64 = 8589934592;
+
+const WILDCARD: u64 = 12884901888;
+
+const KIND_4: u64 = 17179869184;
+
+// Holdings: partition 5, key 4, which is stored as 35, and key -4, which is stored as 27.
+const PARTITION_5: u64 = 32;
+
+const KEY_4: u64 = 34359738368;
+
+const KEY_MINUS_4: u64 = 134217728;
+
+const BIT_63: u64 = 9223372036854775808;
+
+fn main() {
+    open_examples();
+    let words = opened();
+    put_of_unsound(words);
+    put_refused(words);
+    put_of_bad_fields(words);
+    put_of_others_names(words);
+    put_refused_twice(words);
+    put_at_the_limit(words);
+    seek_examples(words, false);
+    seek_examples(words, true);
+}
+
+// Party 0 holds partition 5 and key 4, and party 1 partition 5 and key -4.
+fn roster() -> [u64; 16] {
+    let mut roster = [0u64; 16];
+    roster[0] = PARTITION_5;
+    roster[8] = KEY_4;
+    roster[1] = PARTITION_5;
+    roster[9] = KEY_MINUS_4;
+    roster
+}
+
+fn opened() -> [u64; 1809] {
+    let mut words = [0u64; 1809];
+    space::open(&mut words, &roster());
+    words
+}
+
+fn first_1808(words: [u64; 1809]) -> [u64; 1808] {
+    let mut first = [0u64; 1808];
+    edits::copy_in(&words[..1808], &mut first);
+    first
+}
+
+fn with_129_entries(words: [u64; 1809]) -> [u64; 1809] {
+    let mut damaged = words;
+    damaged[0] = 129;
+    damaged
+}
+
+fn open_examples() {
+    let mut bad = roster();
+    bad[15] = BIT_63;
+    say(b"open, 1808 words");
+    open_1808(&roster());
+    say(b"open, roster of 15 words");
+    open(&[0; 15]);
+    say(b"open, roster of 17 words");
+    open(&[0; 17]);
+    say(b"open, bit 63 in a key word");
+    open(&bad);
+    say(b"open, 1808 words, roster of 15 words");
+    open_1808(&[0; 15]);
+    say(b"open, nothing wrong");
+    open(&roster());
+}
+
+fn put_of_unsound(words: [u64; 1809]) {
+    say(b"put, 1808 words");
+    put_1808(words, 0);
+    say(b"put, 129 live entries");
+    put(with_129_entries(words), 0, 5, 4, 5, 4, &[7]);
+    say(b"put, 1808 words, party 8");
+    put_1808(words, 8);
+}
+
+fn put_refused(words: [u64; 1809]) {
+    say(b"put, party 8");
+    put(words, 8, 5, 4, 5, 4, &[7]);
+    say(b"put, no field");
+    put(words, 0, 5, 4, 5, 4, &[]);
+    say(b"put, 9 fields");
+    put(words, 0, 5, 4, 5, 4, &[7; 9]);
+    say(b"put, read partition 64");
+    put(words, 0, 64, 4, 5, 4, &[7]);
+    say(b"put, read key 32");
+    put(words, 0, 5, 32, 5, 4, &[7]);
+    say(b"put, take partition 64");
+    put(words, 0, 5, 4, 64, 4, &[7]);
+    say(b"put, take key -32");
+    put(words, 0, 5, 4, 5, -32, &[7]);
+}
+
+fn put_of_bad_fields(words: [u64; 1809]) {
+    say(b"put, field of kind 4");
+    put(words, 0, 5, 4, 5, 4, &[KIND_4]);
+    say(b"put, field with partition 64");
+    put(words, 0, 5, 4, 5, 4, &[PARTITION + 64]);
+    say(b"put, field with stored key 63");
+    put(words, 0, 5, 4, 5, 4, &[KEY + 63]);
+    say(b"put, wildcard");
+    put(words, 0, 5, 4, 5, 4, &[WILDCARD]);
+}
+
+fn put_of_others_names(words: [u64; 1809]) {
+    say(b"put, read partition 6 not held");
+    put(words, 0, 6, 4, 5, 4, &[7]);
+    say(b"put, read key -4 not held");
+    put(words, 0, 5, -4, 5, 4, &[7]);
+    say(b"put, take partition 6 not held");
+    put(words, 0, 5, 4, 6, 4, &[7]);
+    say(b"put, take key -4 not held");
+    put(words, 0, 5, 4, 5, -4, &[7]);
+    say(b"put, carried partition 6 not held");
+    put(words, 0, 5, 4, 5, 4, &[PARTITION + 6]);
+    say(b"put, carried key -4 not held");
+    put(words, 0, 5, 4, 5, 4, &[KEY + 27]);
+}
+
+fn put_refused_twice(words: [u64; 1809]) {
+    say(b"put, party 8, no field");
+    put(words, 8, 5, 4, 5, 4, &[]);
+    say(b"put, 9 fields, take key -32");
+    put(words, 0, 5, 4, 5, -32, &[7; 9]);
+    say(b"put, read partition 64, wildcard");
+    put(words, 0, 64, 4, 5, 4, &[WILDCARD]);
+    say(b"put, wildcard, read key -4 not held");
+    put(words, 0, 5, -4, 5, 4, &[WILDCARD]);
+}
+
+// The entries before the 16th are put unshown, and so is the 16th after it is shown.
+fn put_at_the_limit(words: [u64; 1809]) {
+    let mut full = words;
+    put_five_entries(&mut full);
+    put_five_entries(&mut full);
+    put_five_entries(&mut full);
+    say(b"put, 16th entry");
+    put(full, 0, 5, 4, 5, 4, &[7]);
+    space::put(&mut full, 0, 5, 4, 5, 4, &[7]);
+    say(b"put, 17th entry");
+    put(full, 0, 5, 4, 5, 4, &[7]);
+    say(b"put, 17th entry, carried key -4 not held");
+    put(full, 0, 5, 4, 5, 4, &[KEY + 27]);
+}
+
+fn put_five_entries(words: &mut [u64]) {
+    space::put(words, 0, 5, 4, 5, 4, &[7]);
+    space::put(words, 0, 5, 4, 5, 4, &[7]);
+    space::put(words, 0, 5, 4, 5, 4, &[7]);
+    space::put(words, 0, 5, 4, 5, 4, &[7]);
+    space::put(words, 0, 5, 4, 5, 4, &[7]);
+}
+
+// A seek is a read or a take. There is an entry that it would find.
+fn seek_examples(opened: [u64; 1809], taking: bool) {
+    let mut words = opened;
+    space::put(&mut words, 0, 5, 4, 5, 4, &[7, 120]);
+    seek_of_unsound(words, taking);
+    seek_refused(words, taking);
+    seek_of_bad_fields(words, taking);
+    seek_of_others_names(words, taking);
+    seek_refused_twice(words, taking);
+    say_seek(taking, b"nothing wrong");
+    seek(words, taking, 1, 5, -4, &[7, WILDCARD]);
+}
+
+fn seek_of_unsound(words: [u64; 1809], taking: bool) {
+    say_seek(taking, b"1808 words");
+    seek_1808(words, taking, 1);
+    say_seek(taking, b"129 live entries");
+    seek(with_129_entries(words), taking, 1, 5, -4, &[7, 120]);
+    say_seek(taking, b"1808 words, party 8");
+    seek_1808(words, taking, 8);
+}
+
+fn seek_refused(words: [u64; 1809], taking: bool) {
+    say_seek(taking, b"party 8");
+    seek(words, taking, 8, 5, -4, &[7, 120]);
+    say_seek(taking, b"no field");
+    seek(words, taking, 1, 5, -4, &[]);
+    say_seek(taking, b"9 fields");
+    seek(words, taking, 1, 5, -4, &[7; 9]);
+    say_seek(taking, b"partition 64");
+    seek(words, taking, 1, 64, -4, &[7, 120]);
+    say_seek(taking, b"key 32");
+    seek(words, taking, 1, 5, 32, &[7, 120]);
+    say_seek(taking, b"key -32");
+    seek(words, taking, 1, 5, -32, &[7, 120]);
+}
+
+fn seek_of_bad_fields(words: [u64; 1809], taking: bool) {
+    say_seek(taking, b"field of kind 4");
+    seek(words, taking, 1, 5, -4, &[7, KIND_4]);
+    say_seek(taking, b"field with partition 64");
+    seek(words, taking, 1, 5, -4, &[7, PARTITION + 64]);
+    say_seek(taking, b"field with stored key 63");
+    seek(words, taking, 1, 5, -4, &[7, KEY + 63]);
+    say_seek(taking, b"wildcard with value 1");
+    seek(words, taking, 1, 5, -4, &[7, WILDCARD + 1]);
+    say_seek(taking, b"2 fields, 1 result word");
+    seek_to_one_word(words, taking, -4, &[7, 120]);
+}
+
+fn seek_of_others_names(words: [u64; 1809], taking: bool) {
+    say_seek(taking, b"partition 6 not held");
+    seek(words, taking, 1, 6, -4, &[7, 120]);
+    say_seek(taking, b"key 4 not held");
+    seek(words, taking, 1, 5, 4, &[7, 120]);
+    say_seek(taking, b"partition 6 in a field, not held");
+    seek(words, taking, 1, 5, -4, &[7, PARTITION + 6]);
+    say_seek(taking, b"key 4 in a field, not held");
+    seek(words, taking, 1, 5, -4, &[7, KEY + 35]);
+}
+
+fn seek_refused_twice(words: [u64; 1809], taking: bool) {
+    say_seek(taking, b"party 8, no field");
+    seek(words, taking, 8, 5, -4, &[]);
+    say_seek(taking, b"9 fields, partition 64");
+    seek(words, taking, 1, 64, -4, &[7; 9]);
+    say_seek(taking, b"key 32, field of kind 4");
+    seek(words, taking, 1, 5, 32, &[7, KIND_4]);
+    say_seek(taking, b"field of kind 4, 1 result word");
+    seek_to_one_word(words, taking, -4, &[7, KIND_4]);
+    say_seek(taking, b"1 result word, key 4 not held");
+    seek_to_one_word(words, taking, 4, &[7, 120]);
+}
+
+// From here on: each call is made on a copy, which is then compared with the words as they were.
+fn open(roster: &[u64]) {
+    let mut after = [0u64; 1809];
+    let answer = space::open(&mut after, roster);
+    show(answer, same(&[0; 1809], &after));
+}
+
+fn open_1808(roster: &[u64]) {
+    let mut after = [0u64; 1808];
+    let answer = space::open(&mut after, roster);
+    show(answer, same(&[0; 1808], &after));
+}
+
+fn put(
+    words: [u64; 1809],
+    party: u32,
+    rpart: u32,
+    rkey: i32,
+    tpart: u32,
+    tkey: i32,
+    fields: &[u64],
+) {
+    let mut after = words;
+    let answer = space::put(&mut after, party, rpart, rkey, tpart, tkey, fields);
+    show(answer, same(&words, &after));
+}
+
+fn put_1808(words: [u64; 1809], party: u32) {
+    let before = first_1808(words);
+    let mut after = before;
+    let answer = space::put(&mut after, party, 5, 4, 5, 4, &[7]);
+    show(answer, same(&before, &after));
+}
+
+fn seek(words: [u64; 1809], taking: bool, party: u32, partition: u32, key: i32, fields: &[u64]) {
+    let mut after = words;
+    let mut result = [99u64; 8];
+    let answer = sought(
+        &mut after,
+        taking,
+        party,
+        partition,
+        key,
+        fields,
+        &mut result,
+    );
+    show(answer, same(&words, &after) & same(&[99; 8], &result));
+}
+
+fn seek_to_one_word(words: [u64; 1809], taking: bool, key: i32, fields: &[u64]) {
+    let mut after = words;
+    let mut result = [99u64; 1];
+    let answer = sought(&mut after, taking, 1, 5, key, fields, &mut result);
+    show(answer, same(&words, &after) & same(&[99; 1], &result));
+}
+
+fn seek_1808(words: [u64; 1809], taking: bool, party: u32) {
+    let before = first_1808(words);
+    let mut after = before;
+    let mut result = [99u64; 8];
+    let answer = sought(&mut after, taking, party, 5, -4, &[7, 120], &mut result);
+    show(answer, same(&before, &after) & same(&[99; 8], &result));
+}
+
+fn sought(
+    words: &mut [u64],
+    taking: bool,
+    party: u32,
+    partition: u32,
+    key: i32,
+    fields: &[u64],
+    result: &mut [u64],
+) -> Answer {
+    if taking {
+        space::take(words, party, partition, key, fields, result)
+    } else {
+        space::read(words, party, partition, key, fields, result)
+    }
+}
+
+fn say(text: &[u8]) {
+    io::write_all(1, text);
+}
+
+fn say_seek(taking: bool, text: &[u8]) {
+    if taking {
+        say(b"take, ");
+    } else {
+        say(b"read, ");
+    }
+    say(text);
+}
+
+fn show(answer: Answer, unchanged: bool) {
+    say(b": ");
+    show_answer(answer);
+    if unchanged {
+        say(b", unchanged\n");
+    } else {
+        say(b", changed\n");
+    }
+}
+
+fn show_answer(answer: Answer) {
+    match answer {
+        Answer::Done => {
+            say(b"done");
+        }
+        Answer::Found(n) => {
+            say(b"found ");
+            io::print_decimal(1, n as u64);
+        }
+        Answer::None => {
+            say(b"none");
+        }
+        Answer::Refused(number) => {
+            say(b"no");
+            io::print_decimal(1, number as u64);
+        }
+    }
+}
+
+fn same(a: &[u64], b: &[u64]) -> bool {
+    if a.len() != b.len() {
+        return false;
+    }
+    let mut i = 0;
+    while i < a.len() {
+        if a[i] != b[i] {
+            return false;
+        }
+        i += 1;
+    }
+    true
+}

@@ -1,0 +1,19 @@
+-- `bad_pair` meets its contract.
+use mathlib.Core.Path.{ap, _∙_}
+use mathlib.Core.Bool.{Bool, not, _||_}
+use lib.Dec.{ltb}
+use mir.Facts.{toZ-ofZ}
+use mir.Syntax.{w32}
+use Rattle.rules.specs.Names.{keyInRange}
+use borrow.Author.Needs.{needs}
+use Rattle.refusals.proofs.bad_pair.Statement.{statement}
+use Rattle.refusals.proofs.bad_pair.Tie as tie
+
+key-in-range-requires : tie.Need-key-in-range-requires
+key-in-range-requires c κs = search needs
+
+returns : tie.Need-returns
+returns c = ap (λ (b : Bool). ltb 63 (c .before .args .partition) || not b) (c .key-in-range .ensures ∙ ap keyInRange (toZ-ofZ {w = w32} (c .before .fits .key)))
+
+pub bad-pair-spec : {M : Type 1} → statement M
+bad-pair-spec = tie.close (tie.spec key-in-range-requires returns)

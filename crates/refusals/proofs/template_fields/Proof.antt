@@ -1,0 +1,59 @@
+-- `template_fields` meets its contract.
+use Rattle.rules.specs.Fields.{templateField}
+use Rattle.rules.proofs.Loops.{all-fails, all-goes-on, all-ends}
+use Prim.Native.Nat.{_≤_, _-_}
+use mathlib.Core.Path.{_≡_, refl}
+use lib.ListN.{length, drop}
+use Rattle.rules.specs.Lists.{all}
+use borrow.Author.Needs.{needs}
+use Rattle.refusals.proofs.template_fields.Statement.{statement}
+use Rattle.refusals.proofs.template_fields.Tie as tie
+
+abbrev Inv-loop : tie.InvT-loop
+Inv-loop template i₀ i = (i ≤ length template) × (all templateField (drop i template) ≡ all templateField template)
+
+abbrev μ-loop : tie.MeasureT-loop
+μ-loop template i₀ i = length template - i
+
+loop-holds : tie.Need-loop-holds Inv-loop μ-loop
+loop-holds c = (search needs, refl)
+
+mul-template-field : tie.Need-mul-template-field Inv-loop μ-loop
+mul-template-field c = search needs
+
+shared-slice-read-template-field : tie.Need-shared-slice-read-template-field Inv-loop μ-loop
+shared-slice-read-template-field c = search needs
+
+template-field-requires : tie.Need-template-field-requires Inv-loop μ-loop
+template-field-requires c κs = search needs
+
+returns : tie.Need-returns Inv-loop μ-loop
+returns c = all-fails _ _ _ _ (c .before .before .before .before .loop .inv .1) (c .before .before .before .loop-test .taken) _ (c .before .template-field .ensures) (c .if1 .taken)
+
+add-i : tie.Need-add-i Inv-loop μ-loop
+add-i c = search needs
+
+loop-less : tie.Need-loop-less Inv-loop μ-loop
+loop-less c = search needs
+
+loop-again : tie.Need-loop-again Inv-loop μ-loop
+loop-again c = (search needs, all-goes-on _ _ _ _ (c .before .before .before .before .loop .inv .1) (c .before .before .before .loop-test .taken) _ (c .before .template-field .ensures) (c .if1 .left))
+
+returns-2 : tie.Need-returns-2 Inv-loop μ-loop
+returns-2 c = all-ends _ _ _ _ (c .before .loop .inv .1) (c .loop-test .left)
+
+pub template-fields-spec : {M : Type 1} → statement M
+template-fields-spec =
+    tie.close
+    (tie.spec
+    Inv-loop
+    μ-loop
+    loop-holds
+    mul-template-field
+    shared-slice-read-template-field
+    template-field-requires
+    returns
+    add-i
+    loop-less
+    loop-again
+    returns-2)

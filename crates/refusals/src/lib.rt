@@ -1,0 +1,194 @@
+// When a call is turned away: the tests in the table's order, of which the first that applies decides.
+use audit::Finding;
+ghost use mathlib.Core.Path.{_≡_};
+ghost use mathlib.Core.Bool.{true, not};
+ghost use mathlib.Core.List.{_∷_};
+ghost use Prim.Native.Nat.{_<_};
+ghost use lib.ListN.{length};
+ghost use Rattle.rules.specs.Lists.{all};
+ghost use Rattle.rules.specs.Names.{keyInRange, heldIn};
+ghost use Rattle.rules.specs.Fields.{templateField, namesIn};
+ghost use Rattle.rules.specs.Matching.{pair, storedPair};
+ghost use Rattle.rules.specs.State.{holds};
+ghost use Rattle.rules.specs.Calls.{badPair, pairNames, putNames, seekNames, putTable, seekTable};
+ghost use Rattle.rules.specs.Words.{decode, sound, badRoster};
+ghost use Rattle.refusals.specs.Verdicts.{verdict};
+
+pub enum Verdict {
+    Passed,
+    Refused(u32),
+}
+
+// R1 to R8
+pub fn of_put(
+    space: &[u64],
+    party: u32,
+    rpart: u32,
+    rkey: i32,
+    tpart: u32,
+    tkey: i32,
+    fields: &[u64],
+) -> Verdict
+    ensures { λ r. ⌜ r ≡ verdict ((not (sound (now (space .entry))), 1) ∷ putTable (decode (now (space .entry))) party (pair rpart rkey) (pair tpart tkey) (now (fields .entry))) ⌝ }
+{
+    let Finding::Sound(charge) = audit::audit(space, party) else {
+        return Verdict::Refused(1);
+    };
+    if 7 < party {
+        return Verdict::Refused(2);
+    }
+    let n = fields.len();
+    if (n == 0) | (8 < n) {
+        return Verdict::Refused(3);
+    }
+    let bad_read = bad_pair(rpart, rkey);
+    let bad_take = bad_pair(tpart, tkey);
+    if bad_read | bad_take {
+        return Verdict::Refused(4);
+    }
+    if !audit::put_fields(fields) {
+        return Verdict::Refused(5);
+    }
+    if !put_held(space, party, rpart, rkey, tpart, tkey, fields) {
+        return Verdict::Refused(7);
+    }
+    if 16 <= charge {
+        return Verdict::Refused(8);
+    }
+    Verdict::Passed
+}
+
+// R1 to R7
+pub fn of_seek(
+    space: &[u64],
+    party: u32,
+    partition: u32,
+    key: i32,
+    template: &[u64],
+    room: usize,
+) -> Verdict
+    ensures { λ r. ⌜ r ≡ verdict ((not (sound (now (space .entry))), 1) ∷ seekTable (decode (now (space .entry))) party (pair partition key) (now (template .entry)) room) ⌝ }
+{
+    let Finding::Sound(_) = audit::audit(space, party) else {
+        return Verdict::Refused(1);
+    };
+    if 7 < party {
+        return Verdict::Refused(2);
+    }
+    let n = template.len();
+    if (n == 0) | (8 < n) {
+        return Verdict::Refused(3);
+    }
+    if bad_pair(partition, key) {
+        return Verdict::Refused(4);
+    }
+    if !template_fields(template) {
+        return Verdict::Refused(5);
+    }
+    if room < n {
+        return Verdict::Refused(6);
+    }
+    if !seek_held(space, party, partition, key, template) {
+        return Verdict::Refused(7);
+    }
+    Verdict::Passed
+}
+
+// R4
+fn bad_pair(partition: u32, key: i32) -> bool
+    ensures { λ r. ⌜ r ≡ badPair (pair partition key) ⌝ }
+{
+    let in_range = words::key_in_range(key);
+    (63 < partition) | !in_range
+}
+
+// R5
+fn template_fields(template: &[u64]) -> bool
+    ensures { λ r. ⌜ r ≡ all templateField (now (template .entry)) ⌝ }
+{
+    let mut i = 0;
+    while i < template.len() {
+        if !words::template_field(template[i]) {
+            return false;
+        }
+        i += 1;
+    }
+    true
+}
+
+// R7
+fn put_held(
+    space: &[u64],
+    party: u32,
+    rpart: u32,
+    rkey: i32,
+    tpart: u32,
+    tkey: i32,
+    fields: &[u64],
+) -> bool
+    requires { ⌜ (length (now space) ≡ 1809) × (party < 8) × (keyInRange rkey ≡ true) × (keyInRange tkey ≡ true) ⌝ }
+    ensures { λ r. ⌜ r ≡ all (holds (decode (now (space .entry))) party) (putNames (pair rpart rkey) (pair tpart tkey) (now (fields .entry))) ⌝ }
+{
+    let p = party as usize;
+    let partitions = space[1 + p];
+    let keys = space[9 + p];
+    let read_held = pair_held(partitions, keys, rpart, rkey);
+    let take_held = pair_held(partitions, keys, tpart, tkey);
+    let names_held = fields_held(partitions, keys, fields);
+    read_held & (take_held & names_held)
+}
+
+// R7
+fn seek_held(space: &[u64], party: u32, partition: u32, key: i32, template: &[u64]) -> bool
+    requires { ⌜ (length (now space) ≡ 1809) × (party < 8) × (keyInRange key ≡ true) ⌝ }
+    ensures { λ r. ⌜ r ≡ all (holds (decode (now (space .entry))) party) (seekNames (pair partition key) (now (template .entry))) ⌝ }
+{
+    let p = party as usize;
+    let partitions = space[1 + p];
+    let keys = space[9 + p];
+    let pair_held = pair_held(partitions, keys, partition, key);
+    let names_held = fields_held(partitions, keys, template);
+    pair_held & names_held
+}
+
+// R7: the names of a pair.
+fn pair_held(partitions: u64, keys: u64, partition: u32, key: i32) -> bool
+    requires { ⌜ keyInRange key ≡ true ⌝ }
+    ensures { λ r. ⌜ r ≡ all (heldIn partitions keys) (pairNames (storedPair (pair partition key))) ⌝ }
+{
+    let has_partition = words::has_bit(partitions, partition as u64);
+    let stored = words::stored_key(key);
+    let has_key = words::has_bit(keys, stored);
+    has_partition & has_key
+}
+
+// R7: the names in fields.
+fn fields_held(partitions: u64, keys: u64, fields: &[u64]) -> bool
+    ensures { λ r. ⌜ r ≡ all (heldIn partitions keys) (namesIn (now (fields .entry))) ⌝ }
+{
+    let mut i = 0;
+    while i < fields.len() {
+        if !words::field_held(partitions, keys, fields[i]) {
+            return false;
+        }
+        i += 1;
+    }
+    true
+}
+
+// R9
+pub fn bad_roster(roster: &[u64]) -> bool
+    ensures { λ r. ⌜ r ≡ badRoster (now (roster .entry)) ⌝ }
+{
+    if roster.len() != 16 {
+        return true;
+    }
+    let mut i = 8;
+    while i < 16 {
+        if words::has_bit(roster[i], 63) {
+            return true;
+        }
+        i += 1;
+    }
+    false
+}

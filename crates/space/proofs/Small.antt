@@ -1,0 +1,56 @@
+-- Every answer of a call is small: at most 8 fields, and a refusal of at most 9.
+use Prim.Native.Nat.{ℕ, _≤_}
+use mathlib.Core.Path.{_≡_, refl, subst}
+use mathlib.Core.Logic.{_⊎_, inl, inr}
+use mathlib.Core.Bool.{Bool, true, false}
+use mathlib.Core.Option.{Option, none, some}
+use mathlib.Core.List.{List, [], _∷_}
+use native.Mathlib.Omega.{arith}
+use Rattle.rules.specs.Lists.{first, All}
+use Rattle.rules.specs.Matching.{storedPair, Entry, matches}
+use Rattle.rules.specs.Calls.{Call, put, seek, Table, firstThatApplies, putTable, seekTable, remaining, finding, serve}
+use Rattle.rules.specs.Words.{decode, asked, call, refusals, openRefusals, openBy, opening}
+use Rattle.rules.proofs.ListLaws.{bool, first-All}
+use Rattle.rules.proofs.Rows.{EntryOk}
+use Rattle.rules.proofs.Back.{wf-decode}
+use Rattle.rules.proofs.Decided.{callBy, call-by, passes-sound}
+use Rattle.space.specs.Answers.{Small}
+
+numbers-small : (ts : Table) (n : ℕ) → All (λ t. t .1 ≤ 9) ts → firstThatApplies ts ≡ some n → n ≤ 9
+numbers-small [] n h e = let z : _≡_ {A = ℕ} 0 1 = cc in absurd (omega arith)
+numbers-small (t ∷ ts) n h e = go (bool (t .0)) (numbers-small ts n (h .1))
+  where
+    go : (t .0 ≡ true) ⊎ (t .0 ≡ false) → (firstThatApplies ts ≡ some n → n ≤ 9) → n ≤ 9
+    go (inl b) r = let e′ : some (t .1) ≡ some n = rw b at e in let q : t .1 ≡ n = cc in subst (λ (k : ℕ). k ≤ 9) q (h .0)
+    go (inr b) r = r (rw b at e)
+
+table-small : (ws : List ℕ) (c : Call (List ℕ)) → All (λ t. t .1 ≤ 9) (refusals ws c)
+unfolding putTable seekTable
+table-small ws (put who r t fs) = (omega arith, (omega arith, (omega arith, (omega arith, (omega arith, (omega arith, (omega arith, tt)))))))
+table-small ws (seek op who p t result) = (omega arith, (omega arith, (omega arith, (omega arith, (omega arith, (omega arith, (omega arith, tt)))))))
+
+pub call-small : (ws : List ℕ) (c : Call (List ℕ)) → Small (call ws c .answer)
+call-small ws c = rw (call-by ws c) (go (firstThatApplies (refusals ws c)) refl)
+  where
+    found-small : (es : List Entry) (m : Entry → Bool) → All EntryOk es → (o : Option Entry) → first m es ≡ o
+        → (s : _) (op : _) (who : ℕ) (left : List Entry) → Small (finding op who o left s .answer)
+    found-small es m h none e s op who left = tt
+    found-small es m h (some x) e s op who left = first-All EntryOk m es x h e .0 .few
+
+    served-small : (c : Call (List ℕ)) → firstThatApplies (refusals ws c) ≡ none → Small (serve (decode ws) (asked c) .answer)
+    served-small (put who r t fs) e = tt
+    served-small (seek op who p t result) e =
+        found-small (decode ws .entries) (matches op (storedPair p) t) (wf-decode ws (passes-sound ws (seek op who p t result) e) .rows)
+        (first (matches op (storedPair p) t) (decode ws .entries)) refl (decode ws) op who (remaining op (matches op (storedPair p) t) (decode ws .entries))
+
+    go : (o : Option ℕ) → firstThatApplies (refusals ws c) ≡ o → Small (callBy o ws c .answer)
+    go (some n) e = numbers-small (refusals ws c) n (table-small ws c) e
+    go none e = served-small c e
+
+pub opening-small : (ws roster : List ℕ) → Small (opening ws roster .answer)
+unfolding opening
+opening-small ws roster = go (firstThatApplies (openRefusals ws roster)) refl
+  where
+    go : (o : Option ℕ) → firstThatApplies (openRefusals ws roster) ≡ o → Small (openBy o ws roster .answer)
+    go (some n) e = numbers-small (openRefusals ws roster) n (omega arith, (omega arith, tt)) e
+    go none e = tt

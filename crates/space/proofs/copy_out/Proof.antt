@@ -1,0 +1,52 @@
+-- `copy_out` meets its contract.
+use native.Mathlib.Omega.{arith}
+use Prim.Native.Nat.{_+_, _*_}
+use Rattle.space.proofs.Seeking.{copied}
+use borrow.Author.Needs.{needs}
+use Rattle.space.proofs.copy_out.Statement.{statement}
+use Rattle.space.proofs.copy_out.Tie as tie
+
+mul-at : tie.Need-mul-at
+mul-at c = search needs
+
+add-at : tie.Need-add-at
+add-at c = search needs
+
+add-end : tie.Need-add-end
+add-end c = search needs
+
+mul-copy-in : tie.Need-mul-copy-in
+mul-copy-in c = search needs
+
+sub-copy-in : tie.Need-sub-copy-in
+sub-copy-in c = search needs
+
+part-copy-in-start : tie.Need-part-copy-in-start
+part-copy-in-start c = search needs
+
+part-copy-in-end : tie.Need-part-copy-in-end
+part-copy-in-end c = search needs
+
+copy-in-requires : tie.Need-copy-in-requires
+copy-in-requires c κs = search needs
+
+same-length : tie.Need-same-length
+same-length c = search needs
+
+returns : tie.Need-returns
+returns c = let a = c .before .before .before .before .before .before .before .args in copied (a .space .now) (a .result .now) _ (23 + 14 * a .row) (a .n) (omega (arith, c .before .before .before .before .before .before .before .pre)) (c .before .before .copy-in .ensures)
+
+pub copy-out-spec : {M : Type 1} → statement M
+copy-out-spec =
+    tie.close
+    (tie.spec
+    mul-at
+    add-at
+    add-end
+    mul-copy-in
+    sub-copy-in
+    part-copy-in-start
+    part-copy-in-end
+    copy-in-requires
+    same-length
+    returns)

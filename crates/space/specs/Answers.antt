@@ -1,0 +1,52 @@
+-- The code's answers, as the rules' words and numbers.
+use mathlib.Core.Bool.{not}
+use mathlib.Core.List.{List, _∷_}
+use mathlib.Core.Option.{Option, none, some}
+use Prim.Native.Nat.{ℕ, _≤_}
+use lib.IntN.{ℤ}
+use Rattle.rules.specs.Matching.{Pair, storedPair, Op, matches}
+use Rattle.rules.specs.Calls.{done, found, nothing, refused, firstThatApplies, seekTable}
+use Rattle.rules.specs.Calls as calls
+use Rattle.rules.specs.Words.{decode, sound}
+use Rattle.search.specs.Place.{place}
+use Rattle.search.specs.declared.Found as search
+use Rattle.search.specs.declared.Found.the-variants as search-found
+use Rattle.space.specs.declared.Answer.{Answer}
+use Rattle.space.specs.declared.Answer.the-variants.{Done, Found, None}
+use Rattle.space.specs.declared.Answer.the-variants as answer
+use Rattle.space.specs.declared.Sought.{Sought}
+use Rattle.space.specs.declared.Sought.the-variants.{At, Nothing}
+use Rattle.space.specs.declared.Sought.the-variants as sought
+
+-- C5: "done", "found" with the count, "none", or the refusal's number
+abbrev pub meant : Answer → calls.Answer
+meant Done = done
+meant (Found n) = found n
+meant None = nothing
+meant (answer.Refused n) = refused n
+
+-- C5: the answers that calls give: at most 8 fields, and a refusal of at most 9
+abbrev pub Small : calls.Answer → Type 0
+Small done = Unit {0}
+Small (found n) = n ≤ 8
+Small nothing = Unit {0}
+Small (refused n) = n ≤ 9
+
+-- C5: "none", or the refusal's number, where no entry was found
+abbrev pub unfound : Sought → calls.Answer
+unfound (At r) = nothing
+unfound Nothing = nothing
+unfound (sought.Refused n) = refused n
+
+abbrev pub atPlace : search.Found → Sought
+atPlace (search-found.At r) = At r
+atPlace search-found.Nothing = Nothing
+
+abbrev pub soughtBy : Option ℕ → search.Found → Sought
+soughtBy (some n) f = sought.Refused n
+soughtBy none f = atPlace f
+
+-- R1 to R7, M5: the first refusal that applies, or where the search finds the oldest match
+unfoldable pub soughtIn : List ℕ → Op → ℕ → Pair ℤ → List ℕ → ℕ → Sought
+soughtIn ws op who p t room =
+    soughtBy (firstThatApplies ((not (sound ws), 1) ∷ seekTable (decode ws) who p t room)) (place (matches op (storedPair p) t) (decode ws .entries))

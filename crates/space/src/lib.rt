@@ -1,0 +1,175 @@
+// The four calls of the space: open, put, read and take.
+use refusals::Verdict;
+use search::Found;
+use search::Op;
+ghost use mathlib.Core.Path.{_≡_};
+ghost use mathlib.Core.List.{[], _++_};
+ghost use Prim.Native.Nat.{_+_, _*_, _<_, _≤_};
+ghost use lib.ListN.{length, take, drop};
+ghost use Rattle.rules.specs.Matching.{pair, reading, taking};
+ghost use Rattle.rules.specs.Calls.{put, seek};
+ghost use Rattle.rules.specs.Words.{exit, call, opening};
+ghost use Rattle.search.specs.Place as place;
+ghost use Rattle.space.specs.Answers.{meant, soughtIn, unfound};
+
+// C5: what a call answers.
+pub enum Answer {
+    Done,
+    Found(usize),
+    None,
+    Refused(u32),
+}
+
+// What a read or take comes to before it changes a word: the place of the oldest match, none, or a refusal.
+pub enum Sought {
+    At(usize),
+    Nothing,
+    Refused(u32),
+}
+
+// C1
+pub fn open(space: &mut [u64], roster: &[u64]) -> Answer
+    ensures { λ r. ⌜ exit (meant r) (now (space .exit)) [] ≡ opening (now (space .entry)) (now (roster .entry)) ⌝ }
+{
+    if space.len() != 1809 {
+        return Answer::Refused(1);
+    }
+    if refusals::bad_roster(roster) {
+        return Answer::Refused(9);
+    }
+    edits::fill(space, roster);
+    Answer::Done
+}
+
+// C2
+pub fn put(
+    space: &mut [u64],
+    party: u32,
+    rpart: u32,
+    rkey: i32,
+    tpart: u32,
+    tkey: i32,
+    fields: &[u64],
+) -> Answer
+    ensures { λ r. ⌜ exit (meant r) (now (space .exit)) [] ≡ call (now (space .entry)) (put party (pair rpart rkey) (pair tpart tkey) (now (fields .entry))) ⌝ }
+{
+    let verdict = refusals::of_put(space, party, rpart, rkey, tpart, tkey, fields);
+    if let Verdict::Refused(number) = verdict {
+        return Answer::Refused(number);
+    }
+    let read_key = words::stored_key(rkey);
+    let take_key = words::stored_key(tkey);
+    edits::add_row(
+        space,
+        party as u64,
+        rpart as u64,
+        read_key,
+        tpart as u64,
+        take_key,
+        fields,
+    );
+    Answer::Done
+}
+
+// C3
+pub fn read(
+    space: &mut [u64],
+    party: u32,
+    partition: u32,
+    key: i32,
+    fields: &[u64],
+    result: &mut [u64],
+) -> Answer
+    ensures { λ r. ⌜ exit (meant r) (now (space .exit)) (now (result .exit)) ≡ call (now (space .entry)) (seek reading party (pair partition key) (now (fields .entry)) (now (result .entry))) ⌝ }
+{
+    let found = find(
+        space,
+        Op::Reading,
+        party,
+        partition,
+        key,
+        fields,
+        result.len(),
+    );
+    let Sought::At(row) = found else {
+        return none_or_refusal(found);
+    };
+    let n = fields.len();
+    copy_out(space, row, n, result);
+    edits::hold_names(space, party as usize, &result[..n]);
+    Answer::Found(n)
+}
+
+// C4
+pub fn take(
+    space: &mut [u64],
+    party: u32,
+    partition: u32,
+    key: i32,
+    fields: &[u64],
+    result: &mut [u64],
+) -> Answer
+    ensures { λ r. ⌜ exit (meant r) (now (space .exit)) (now (result .exit)) ≡ call (now (space .entry)) (seek taking party (pair partition key) (now (fields .entry)) (now (result .entry))) ⌝ }
+{
+    let found = find(
+        space,
+        Op::Taking,
+        party,
+        partition,
+        key,
+        fields,
+        result.len(),
+    );
+    let Sought::At(row) = found else {
+        return none_or_refusal(found);
+    };
+    let n = fields.len();
+    copy_out(space, row, n, result);
+    edits::remove_row(space, row);
+    edits::hold_names(space, party as usize, &result[..n]);
+    Answer::Found(n)
+}
+
+// R1 to R7, then M5.
+fn find(
+    space: &[u64],
+    op: Op,
+    party: u32,
+    partition: u32,
+    key: i32,
+    fields: &[u64],
+    room: usize,
+) -> Sought
+    ensures { λ r. ⌜ r ≡ soughtIn (now (space .entry)) (place.meant op) party (pair partition key) (now (fields .entry)) room ⌝ }
+{
+    let verdict = refusals::of_seek(space, party, partition, key, fields, room);
+    if let Verdict::Refused(number) = verdict {
+        return Sought::Refused(number);
+    }
+    let cokey = words::stored_co_key(key);
+    let Found::At(row) = search::search(space, op, partition as u64, cokey, fields) else {
+        return Sought::Nothing;
+    };
+    Sought::At(row)
+}
+
+// C5: the answer of a read or take that found no entry.
+fn none_or_refusal(found: Sought) -> Answer
+    ensures { λ r. ⌜ meant r ≡ unfound found ⌝ }
+{
+    match found {
+        Sought::At(_) => Answer::None,
+        Sought::Nothing => Answer::None,
+        Sought::Refused(number) => Answer::Refused(number),
+    }
+}
+
+// C3: the row's first n field words come first in the result, and the rest of it is kept.
+fn copy_out(space: &[u64], row: usize, n: usize, result: &mut [u64])
+    requires { ⌜ (length (now space) ≡ 1809) × (row < 128) × (n ≤ 8) × (n ≤ length (now result)) ⌝ }
+    ensures { λ _. ⌜ now (result .exit) ≡ take n (drop (23 + 14 * row) (now (space .entry))) ++ drop n (now (result .entry)) ⌝ }
+{
+    let at = 23 + 14 * row;
+    let end = at + n;
+    edits::copy_in(&space[at..end], result);
+}
