@@ -1,0 +1,89 @@
+-- A reply is short, and a put's reply has no fields.
+use Prim.Native.Nat.{ℕ, _+_, _*_, _≤_}
+use mathlib.Core.Path.{_≡_, refl, sym, ap, subst}
+use mathlib.Core.Option.{Option, none, some}
+use mathlib.Core.List.{List, [], _∷_, _++_}
+use native.Mathlib.Omega.{arith}
+use native.Mathlib.Nat.{le-trans}
+use lib.IntN.{ℤ}
+use lib.ListN.{length, length-append, length-take}
+use Rattle.rules.specs.Matching.{Pair}
+use Rattle.rules.specs.Calls.{put, Answer, done, found, nothing, refused, firstThatApplies}
+use Rattle.rules.specs.Words.{Exit, exit, call, refusals}
+use Rattle.rules.specs.Runs.{foundIn}
+use Rattle.rules.proofs.Decided.{callBy, call-by}
+use Rattle.space.specs.Answers.{Small}
+use Rattle.text.specs.Numbers.{decimal}
+use Rattle.text.specs.Fields.{renderFields}
+use Rattle.text.proofs.Room.{decimal-short, fields-short}
+use Rattle.session.specs.Transcript.{answerText, replyText, unreadable}
+use Rattle.text.specs.Written.{Written}
+use Rattle.session.specs.Steps.{countOf, Replied}
+
+number-short : (n : ℕ) → n ≤ 1000000 → length (decimal n) ≤ 7
+number-short n h = decimal-short 6 n (omega arith)
+
+answer-short : (a : Answer) → Small a → length (answerText a) ≤ 5
+unfolding answerText
+answer-short done h = omega arith
+answer-short (found n) h = omega arith
+answer-short nothing h = omega arith
+answer-short (refused n) h = let l : length (decimal n) ≤ 1 = decimal-short 0 n (omega arith) in omega arith
+
+found-few : (a : Answer) (result : List ℕ) → Small a → length (foundIn a result) ≤ 8
+found-few done result h = omega arith
+found-few (found n) result h = let l = length-take n result in omega arith
+found-few nothing result h = omega arith
+found-few (refused n) result h = omega arith
+
+pub reply-short : (n : ℕ) (x : Exit) → n ≤ 1000000 → Small (x .answer) → length (replyText n x) ≤ 256
+unfolding replyText
+reply-short n x h s =
+    let fields : List ℕ = renderFields (foundIn (x .answer) (x .result)) in
+    let a = number-short n h in
+    let b = answer-short (x .answer) s in
+    let few = found-few (x .answer) (x .result) s in
+    let c : length fields ≤ 12 * length (foundIn (x .answer) (x .result)) + 1 = fields-short (foundIn (x .answer) (x .result)) in
+    let d : length (fields ++ (10 ∷ [])) ≡ length fields + 1 = length-append fields (10 ∷ []) in
+    let e = length-append (answerText (x .answer)) (32 ∷ (fields ++ (10 ∷ []))) in
+    let f = length-append (decimal n) (32 ∷ (answerText (x .answer) ++ (32 ∷ (fields ++ (10 ∷ []))))) in
+    omega arith
+
+pub unreadable-short : (n : ℕ) → n ≤ 1000000 → length (unreadable n) ≤ 256
+unfolding unreadable
+unreadable-short n h =
+    let a = number-short n h in
+    let b = length-append (decimal n) (32 ∷ 117 ∷ 110 ∷ 114 ∷ 101 ∷ 97 ∷ 100 ∷ 97 ∷ 98 ∷ 108 ∷ 101 ∷ 10 ∷ []) in
+    omega arith
+
+pub count-small : (a : Answer) → Small a → countOf a ≤ 8
+count-small done h = omega arith
+count-small (found n) h = h
+count-small nothing h = omega arith
+count-small (refused n) h = omega arith
+
+pub put-unfound : (ws : List ℕ) (who : ℕ) (r t : Pair ℤ) (fs : List ℕ) → countOf (call ws (put who r t fs) .answer) ≡ 0
+put-unfound ws who r t fs = rw (call-by ws (put who r t fs)) (go (firstThatApplies (refusals ws (put who r t fs))))
+  where
+    go : (o : Option ℕ) → countOf (callBy o ws (put who r t fs) .answer) ≡ 0
+    go (some n) = refl
+    go none = refl
+
+-- ---- a reply that was printed, from what the call's contract says
+module _ (number : ℕ) (a : Answer) (ws result : List ℕ) (x : Exit) (e : exit a ws result ≡ x) where
+  is-small : Small (x .answer) → Small a
+  is-small h = subst Small (sym (ap (λ (y : Exit). y .answer) e)) h
+
+  text-is : replyText number (exit a [] result) ≡ replyText number x
+  unfolding replyText
+  text-is = ap (λ (y : Exit). replyText number (exit (y .answer) [] (y .result))) e
+
+  pub reply-room : (room : ℕ) → number ≤ 1000000 → 256 ≤ room → Small (x .answer) → length (replyText number (exit a [] result)) ≤ room
+  reply-room room h l s = le-trans (reply-short number (exit a [] result) h (is-small s)) l
+
+  pub count-room : Small (x .answer) → countOf a ≤ 8
+  count-room s = count-small a (is-small s)
+
+  pub replied : {out after : List ℕ} {k : ℕ} → Written out 0 (replyText number (exit a [] result)) after k → Replied number x ws out after k
+  replied {out} {after} {k} w =
+      record { left = ap (λ (y : Exit). y .space) e; written = subst (λ (t : List ℕ). Written out 0 t after k) text-is w }

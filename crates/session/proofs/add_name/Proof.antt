@@ -1,0 +1,58 @@
+-- `add_name` meets its contract.
+use Prim.Native.Nat.{ℕ}
+use mathlib.Core.Path.{sym, ap, _∙_, subst}
+use native.Mathlib.Omega.{arith}
+use lib.ListN.{set}
+use Rattle.session.specs.Transcript.{withName}
+use Rattle.session.specs.Read.{nameOf, GiftUpTo}
+use Rattle.session.specs.declared.lines.Gift.{Gift}
+use borrow.Author.Needs.{needs}
+use Rattle.session.proofs.add_name.Statement.{statement}
+use Rattle.session.proofs.add_name.Tie as tie
+
+enum-told : tie.Need-enum-told
+enum-told c = search needs
+
+enum-known-gift : tie.Need-enum-known-gift
+enum-known-gift c = search needs
+
+mul-with-bit : tie.Need-mul-with-bit
+mul-with-bit c = search needs
+
+slice-read-with-bit : tie.Need-slice-read-with-bit
+slice-read-with-bit c = search needs
+
+with-bit-requires : tie.Need-with-bit-requires
+with-bit-requires c κs = let l = subst (GiftUpTo 63) (c .before .before .gift .given .1) (c .before .before .before .before .before .pre .1) in omega arith
+
+mul-roster : tie.Need-mul-roster
+mul-roster c = search needs
+
+slice-write-roster : tie.Need-slice-write-roster
+slice-write-roster c = search needs
+
+returns : tie.Need-returns
+returns c = ap (λ (g : Gift). withName (c .before .before .before .args .at) (nameOf g) (c .before .before .before .args .roster .now)) (sym (c .enum-told .given .1))
+
+same-length : tie.Need-same-length
+same-length c = search needs
+
+returns-2 : tie.Need-returns-2
+returns-2 c =
+    let a = c .before .before .before .before .before .before .args in
+    ap (λ (w : ℕ). set (a .roster .now) (a .at) w) (c .with-bit .ensures) ∙ ap (λ (g : Gift). withName (a .at) (nameOf g) (a .roster .now)) (sym (c .before .before .before .gift .given .1))
+
+pub add-name-spec : {M : Type 1} → statement M
+add-name-spec =
+    tie.close
+    (tie.spec
+    enum-told
+    enum-known-gift
+    mul-with-bit
+    slice-read-with-bit
+    with-bit-requires
+    mul-roster
+    slice-write-roster
+    returns
+    same-length
+    returns-2)

@@ -1,0 +1,5 @@
+pub mod Lines
+pub mod Parts
+pub mod Read
+pub mod Transcript
+pub mod Steps

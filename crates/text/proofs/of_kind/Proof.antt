@@ -1,0 +1,35 @@
+-- By whether there is a value.
+use mathlib.Core.Path.{sym, ap}
+use borrow.Author.Needs.{needs}
+use Rattle.text.specs.Fields.{ofKind}
+use Rattle.text.specs.Answers.{wordOf, valueIn}
+use Rattle.text.specs.declared.Number.{Number}
+use Rattle.text.proofs.of_kind.Statement.{statement}
+use Rattle.text.proofs.of_kind.Tie as tie
+
+enum-known-value : tie.Need-enum-known-value
+enum-known-value c = search needs
+
+enum-told : tie.Need-enum-told
+enum-told c = search needs
+
+returns : tie.Need-returns
+unfolding wordOf
+returns c = ap (λ (n : Number). wordOf (ofKind (c .before .before .args .kind) (valueIn n))) (sym (c .enum-told .given .1))
+
+mul-t4 : tie.Need-mul-t4
+mul-t4 c = search needs
+
+cast-t5 : tie.Need-cast-t5
+cast-t5 c = search needs
+
+add-t6 : tie.Need-add-t6
+add-t6 c = search needs
+
+returns-2 : tie.Need-returns-2
+unfolding wordOf
+returns-2 c = ap (λ (n : Number). wordOf (ofKind (c .before .before .before .args .kind) (valueIn n))) (sym (c .before .value .given .1))
+
+pub of-kind-spec : {M : Type 1} → statement M
+of-kind-spec =
+    tie.close (tie.spec enum-known-value enum-told returns mul-t4 cast-t5 add-t6 returns-2)

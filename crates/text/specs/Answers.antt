@@ -1,0 +1,39 @@
+-- The readers' answers, as what the definitions give.
+use mathlib.Core.Option.{Option, none, some}
+use mathlib.Core.List.{List}
+use Prim.Native.Nat.{ℕ}
+use lib.IntN.{ℤ}
+use lib.ListN.{length}
+use Rattle.text.specs.declared.Number as number
+use Rattle.text.specs.declared.Number.{Number}
+use Rattle.text.specs.declared.SignedNumber as signed-number
+use Rattle.text.specs.declared.SignedNumber.{SignedNumber}
+use Rattle.text.specs.declared.Word as word
+use Rattle.text.specs.declared.Word.{Word}
+use Rattle.text.specs.declared.Fields as fields
+use Rattle.text.specs.declared.Fields.{Fields}
+
+unfoldable pub numberOf : Option ℕ → Number
+numberOf none = number.the-variants.Unreadable
+numberOf (some v) = number.the-variants.Value v
+
+unfoldable pub signedOf : Option ℤ → SignedNumber
+signedOf none = signed-number.the-variants.Unreadable
+signedOf (some k) = signed-number.the-variants.Value k
+
+unfoldable pub wordOf : Option ℕ → Word
+wordOf none = word.the-variants.Unreadable
+wordOf (some w) = word.the-variants.Field w
+
+unfoldable pub countOf : Option (List ℕ) → Fields
+countOf none = fields.the-variants.Unreadable
+countOf (some ws) = fields.the-variants.Count (length ws)
+
+-- what a number or a signed number was read as
+abbrev pub valueIn : Number → Option ℕ
+valueIn (number.the-variants.Value v) = some v
+valueIn number.the-variants.Unreadable = none
+
+abbrev pub keyIn : SignedNumber → Option ℤ
+keyIn (signed-number.the-variants.Value k) = some k
+keyIn signed-number.the-variants.Unreadable = none

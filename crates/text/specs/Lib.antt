@@ -1,0 +1,5 @@
+pub mod Numbers
+pub mod Fields
+pub mod Answers
+pub mod Written
+pub mod Claims
