@@ -1,0 +1,76 @@
+// The four calls for programs in C, exported as include/space.h declares them.
+use space::Answer;
+ghost use mathlib.Core.Path.{_≡_};
+ghost use mathlib.Core.List.{[]};
+ghost use Rattle.rules.specs.Matching.{pair, reading, taking};
+ghost use Rattle.rules.specs.Calls.{put, seek};
+ghost use Rattle.rules.specs.Words.{call, opening};
+ghost use Rattle.space.specs.Answers.{meant, Small};
+ghost use Rattle.space_c.specs.Codes.{codeOf, Left};
+
+// C1
+#[no_mangle]
+pub extern "C" fn space_open(space: &mut [u64], roster: &[u64]) -> u32
+    ensures { λ r. ⌜ Left r (now (space .exit)) [] (opening (now (space .entry)) (now (roster .entry))) ⌝ }
+{
+    code(space::open(space, roster))
+}
+
+// C2
+#[no_mangle]
+pub extern "C" fn space_put(
+    space: &mut [u64],
+    party: u32,
+    rpart: u32,
+    rkey: i32,
+    tpart: u32,
+    tkey: i32,
+    fields: &[u64],
+) -> u32
+    ensures { λ r. ⌜ Left r (now (space .exit)) [] (call (now (space .entry)) (put party (pair rpart rkey) (pair tpart tkey) (now (fields .entry)))) ⌝ }
+{
+    code(space::put(space, party, rpart, rkey, tpart, tkey, fields))
+}
+
+// C3
+#[no_mangle]
+pub extern "C" fn space_read(
+    space: &mut [u64],
+    party: u32,
+    partition: u32,
+    key: i32,
+    fields: &[u64],
+    result: &mut [u64],
+) -> u32
+    ensures { λ r. ⌜ Left r (now (space .exit)) (now (result .exit)) (call (now (space .entry)) (seek reading party (pair partition key) (now (fields .entry)) (now (result .entry)))) ⌝ }
+{
+    code(space::read(space, party, partition, key, fields, result))
+}
+
+// C4
+#[no_mangle]
+pub extern "C" fn space_take(
+    space: &mut [u64],
+    party: u32,
+    partition: u32,
+    key: i32,
+    fields: &[u64],
+    result: &mut [u64],
+) -> u32
+    ensures { λ r. ⌜ Left r (now (space .exit)) (now (result .exit)) (call (now (space .entry)) (seek taking party (pair partition key) (now (fields .entry)) (now (result .entry)))) ⌝ }
+{
+    code(space::take(space, party, partition, key, fields, result))
+}
+
+// C5: the answer as a number.
+fn code(a: Answer) -> u32
+    requires { ⌜ Small (meant a) ⌝ }
+    ensures { λ r. ⌜ r ≡ codeOf (meant a) ⌝ }
+{
+    match a {
+        Answer::Done => 0,
+        Answer::Found(n) => n as u32,
+        Answer::None => 0,
+        Answer::Refused(n) => 100 + n,
+    }
+}

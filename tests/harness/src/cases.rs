@@ -1,0 +1,156 @@
+//! The rules' cases and the examples of their refusals, with answers and words written by hand.
+
+use crate::call::{answer_text, Call, Query};
+use crate::report::Report;
+use crate::space::Space;
+use reference::Pair;
+
+const WILDCARD: u64 = 12_884_901_888;
+const PARTITION_5: u64 = 4_294_967_301;
+const KEY_4: u64 = 8_589_934_627;
+const REFUSED: u32 = 100;
+
+const fn pair(partition: u32, key: i32) -> Pair {
+    Pair { partition, key }
+}
+
+fn put(party: u32, pair: Pair, fields: &[u64]) -> Call {
+    Call::Put {
+        party,
+        read: pair,
+        take: pair,
+        fields: fields.to_vec(),
+    }
+}
+
+fn query(party: u32, pair: Pair, fields: &[u64]) -> Query {
+    Query {
+        party,
+        pair,
+        fields: fields.to_vec(),
+        result_len: 8,
+    }
+}
+
+fn read(party: u32, pair: Pair, fields: &[u64]) -> Call {
+    Call::Read(query(party, pair, fields))
+}
+
+fn take(party: u32, pair: Pair, fields: &[u64]) -> Call {
+    Call::Take(query(party, pair, fields))
+}
+
+/// A call, its answer and the fields it finds.
+type Step = (Call, u32, Vec<u64>);
+
+fn step(call: Call, answer: u32) -> Step {
+    (call, answer, Vec::new())
+}
+
+fn finds(call: Call, fields: &[u64]) -> Step {
+    (call, fields.len() as u32, fields.to_vec())
+}
+
+/// Each case with its steps from the opening of the rules' cases.
+fn cases() -> Vec<(&'static str, Vec<Step>)> {
+    let all = [WILDCARD, WILDCARD];
+    let sixteen = (0..16).map(|_| step(put(0, pair(5, 4), &[1]), 0));
+    let after_sixteen = [
+        step(put(0, pair(5, 4), &[1]), REFUSED + 8),
+        finds(take(1, pair(5, -4), &[1]), &[1]),
+        step(put(0, pair(5, 4), &[1]), 0),
+    ];
+    let short_result = Call::Read(Query {
+        result_len: 1,
+        ..query(0, pair(0, 0), &[1, 2])
+    });
+    vec![
+        (
+            "a to e",
+            vec![
+                step(put(0, pair(5, 4), &[7, 120]), 0),
+                finds(read(1, pair(5, -4), &[7, WILDCARD]), &[7, 120]),
+                step(take(0, pair(5, -4), &all), REFUSED + 7),
+                finds(take(1, pair(5, -4), &all), &[7, 120]),
+                step(read(1, pair(5, -4), &all), 0),
+            ],
+        ),
+        (
+            "i",
+            vec![
+                step(put(0, pair(5, 4), &[1]), 0),
+                step(put(0, pair(5, 4), &[2]), 0),
+                finds(take(1, pair(5, -4), &[WILDCARD]), &[1]),
+            ],
+        ),
+        ("j", sixteen.chain(after_sixteen).collect()),
+        (
+            "k, with the words of g and h",
+            vec![
+                step(put(0, pair(0, 0), &[PARTITION_5, KEY_4]), 0),
+                step(put(2, pair(5, 4), &[1]), REFUSED + 7),
+                finds(read(2, pair(0, 0), &all), &[PARTITION_5, KEY_4]),
+                step(put(2, pair(5, 4), &[1]), 0),
+                step(put(2, pair(5, -4), &[1]), REFUSED + 7),
+            ],
+        ),
+        ("l", vec![step(put(8, pair(0, 0), &[]), REFUSED + 2)]),
+        (
+            "examples of the refusals",
+            vec![
+                step(put(8, pair(0, 0), &[1]), REFUSED + 2),
+                step(put(0, pair(0, 0), &[1; 9]), REFUSED + 3),
+                step(put(0, pair(0, -32), &[1]), REFUSED + 4),
+                step(put(0, pair(0, 0), &[WILDCARD]), REFUSED + 5),
+                step(short_result, REFUSED + 6),
+                step(read(0, pair(5, -4), &[1]), REFUSED + 7),
+                step(
+                    Call::Open {
+                        roster: vec![0; 15],
+                    },
+                    REFUSED + 9,
+                ),
+            ],
+        ),
+    ]
+}
+
+/// Makes the opening of the rules' cases: partition 5 for both, key 4 for 0 and -4 for 1.
+fn opening(system: &mut dyn Space) -> Vec<u64> {
+    let mut roster = [0; 16];
+    roster[0] = 1 << 5;
+    roster[1] = 1 << 5;
+    roster[8] = 1 << 35;
+    roster[9] = 1 << 27;
+    let mut space = vec![u64::MAX; 1_809];
+    system.open(&mut space, &roster);
+    space
+}
+
+fn run_case(system: &mut dyn Space, steps: &[Step]) -> Result<String, String> {
+    let mut space = opening(system);
+    for (call, answer, fields) in steps {
+        let mut result = vec![99; call.result_len()];
+        let got = call.make(system, &mut space, call.input(), &mut result);
+        let mut expected = vec![99; call.result_len()];
+        expected[..fields.len()].copy_from_slice(fields);
+        if got != *answer || result != expected {
+            let (got, due) = (
+                answer_text(call.kind(), got),
+                answer_text(call.kind(), *answer),
+            );
+            return Err(format!(
+                "{call:?}: {got} {result:?}, due is {due} {expected:?}"
+            ));
+        }
+    }
+    Ok(format!("calls as due: {}", steps.len()))
+}
+
+/// Runs each case.
+pub fn check(report: &mut Report, who: &str, system: &mut dyn Space) {
+    for (name, steps) in cases() {
+        let outcome = run_case(system, &steps);
+        report.check(&format!("case {name}, {who}"), outcome);
+    }
+}

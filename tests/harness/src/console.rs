@@ -1,0 +1,309 @@
+//! The console program against the reference's text to text.
+
+use crate::report::Report;
+use crate::rng::Rng;
+use crate::scripts;
+use std::collections::BTreeMap;
+use std::io::{Read, Write};
+use std::process::{Child, Command, Stdio};
+use std::sync::mpsc;
+use std::time::Duration;
+
+const SEED: u64 = 6_001;
+/// A program that needs longer for one input is stopped.
+const PATIENCE: Duration = Duration::from_secs(20);
+/// No right output comes near this.
+const LONGEST_OUTPUT: u64 = 4 << 20;
+
+const EXAMPLE_INPUT: &str = "\
+call party rpart rkey tpart tkey fields
+give 0 5 4 - - -
+give 1 5 -4 - - -
+put 0 5 4 5 4 m7,m120
+read 1 5 -4 - - m7,*
+take 0 5 -4 - - *,*
+take 1 5 -4 - - *,*
+read 1 5 -4 - - *,*
+";
+const EXAMPLE_OUTPUT: &str = "\
+line answer fields
+1 done -
+2 found m7,m120
+3 no7 -
+4 found m7,m120
+5 none -
+";
+
+/// What an output line can say; each must come up.
+const SAYINGS: [&str; 14] = [
+    "names",
+    "done",
+    "found",
+    "none",
+    "no2",
+    "no3",
+    "no4",
+    "no5",
+    "no7",
+    "no8",
+    "line 1 unreadable",
+    "unreadable after calls",
+    "unreadable before calls",
+    "input too long",
+];
+
+/// Inputs of one make.
+struct Sort {
+    name: &'static str,
+    inputs: u64,
+    make: fn(&mut Rng, u64) -> Vec<u8>,
+}
+
+const SORTS: [Sort; 11] = [
+    Sort {
+        name: "readable inputs",
+        inputs: 600,
+        make: |rng, _| scripts::readable(rng),
+    },
+    Sort {
+        name: "inputs cut short",
+        inputs: 500,
+        make: |rng, _| {
+            let mut input = scripts::readable(rng);
+            scripts::cut(rng, &mut input);
+            input
+        },
+    },
+    Sort {
+        name: "bytes 0 to 255 anywhere",
+        inputs: 768,
+        make: |rng, number| {
+            let mut input = scripts::readable(rng);
+            // Every byte has its turn.
+            scripts::break_byte(rng, &mut input, number as u8);
+            while rng.percent(20) {
+                let byte = rng.word() as u8;
+                scripts::break_byte(rng, &mut input, byte);
+            }
+            input
+        },
+    },
+    Sort {
+        name: "items at the ends of ranges",
+        inputs: 400,
+        make: |rng, _| {
+            let mut input = scripts::readable(rng);
+            scripts::break_item(rng, &mut input);
+            while rng.percent(30) {
+                scripts::break_item(rng, &mut input);
+            }
+            input
+        },
+    },
+    Sort {
+        name: "each nasty item in each place",
+        inputs: scripts::NASTY_ITEM_INPUTS as u64,
+        make: |_, number| scripts::nasty_item(number as usize),
+    },
+    Sort {
+        name: "each nasty field in each kind of call",
+        inputs: scripts::NASTY_FIELD_INPUTS as u64,
+        make: |_, number| scripts::nasty_field(number as usize),
+    },
+    Sort {
+        name: "0 to 20 fields",
+        inputs: scripts::FIELD_COUNT_INPUTS as u64,
+        make: |_, number| scripts::field_count(number as usize),
+    },
+    Sort {
+        name: "broken lines",
+        inputs: 400,
+        make: |rng, _| {
+            let mut input = scripts::readable(rng);
+            scripts::break_line(rng, &mut input);
+            input
+        },
+    },
+    Sort {
+        name: "noise",
+        inputs: 200,
+        make: |rng, _| scripts::noise(rng),
+    },
+    Sort {
+        name: "65,535 to 65,537 bytes, and longer",
+        inputs: 120,
+        make: long_input,
+    },
+    Sort {
+        name: "no bytes, one byte",
+        inputs: 257,
+        make: |_, number| {
+            number
+                .checked_sub(1)
+                .map(|byte| byte as u8)
+                .into_iter()
+                .collect()
+        },
+    },
+];
+
+/// Readable and of a length around the limit, or broken without a change of length.
+fn long_input(rng: &mut Rng, number: u64) -> Vec<u8> {
+    let lengths = [65_535, 65_536, 65_537, 65_538, 131_073];
+    let length = lengths[number as usize % lengths.len()];
+    let mut input = scripts::readable_of_length(rng, length);
+    match rng.below(6) {
+        0 => input[length - 1] = rng.pick(b" 0\0\r"),
+        1 => {
+            let place = rng.below(length);
+            input[place] = rng.word() as u8;
+        }
+        2 => input.fill(rng.pick(b"\n0 ")),
+        _ => {}
+    }
+    input
+}
+
+/// Compares the program at this path with the reference.
+pub fn compare(report: &mut Report, program: &str) {
+    report.check("console: the rules' example", example(program));
+    let mut said = BTreeMap::new();
+    for (index, sort) in SORTS.iter().enumerate() {
+        let outcome = compare_sort(program, SEED + index as u64, sort, &mut said);
+        report.check(&format!("console: {}", sort.name), outcome);
+    }
+    for (saying, count) in &said {
+        println!("  {saying}: {count}");
+    }
+    let missing: Vec<&str> = SAYINGS
+        .into_iter()
+        .filter(|saying| !said.contains_key(saying))
+        .collect();
+    let outcome = match missing.is_empty() {
+        true => Ok("each came up".to_string()),
+        false => Err(format!("never came up: {}", missing.join(", "))),
+    };
+    report.check("console: what an output can say", outcome);
+}
+
+fn example(program: &str) -> Result<String, String> {
+    let output = run(program, EXAMPLE_INPUT.as_bytes())?;
+    match output == EXAMPLE_OUTPUT.as_bytes() {
+        true => Ok("comes out whole".to_string()),
+        false => Err(difference_text(
+            EXAMPLE_INPUT.as_bytes(),
+            &output,
+            EXAMPLE_OUTPUT.as_bytes(),
+        )),
+    }
+}
+
+fn compare_sort(
+    program: &str,
+    seed: u64,
+    sort: &Sort,
+    said: &mut BTreeMap<&'static str, u64>,
+) -> Result<String, String> {
+    for number in 0..sort.inputs {
+        let input = (sort.make)(&mut Rng::new(seed, number), number);
+        let expected = reference::console(&input);
+        let place = format!("seed {seed}, input {number}");
+        let output = run(program, &input).map_err(|text| format!("{place}: {text}"))?;
+        if output != expected {
+            let text = difference_text(&input, &output, &expected);
+            return Err(format!("{place}: {text}"));
+        }
+        note_sayings(&expected, said);
+    }
+    Ok(format!("seed {seed}, {} inputs alike", sort.inputs))
+}
+
+fn note_sayings(output: &[u8], said: &mut BTreeMap<&'static str, u64>) {
+    let text = String::from_utf8_lossy(output);
+    let mut calls = 0;
+    for line in text.lines() {
+        let mut items = line.split(' ');
+        let saying = match (items.next(), items.next()) {
+            (Some("line"), Some("answer")) => "names",
+            (Some("line"), Some("1")) => "line 1 unreadable",
+            (Some("line"), _) if calls > 0 => "unreadable after calls",
+            (Some("line"), _) => "unreadable before calls",
+            (Some("input"), _) => "input too long",
+            (_, Some(answer)) => {
+                calls += 1;
+                SAYINGS
+                    .into_iter()
+                    .find(|saying| *saying == answer)
+                    .unwrap_or("another answer")
+            }
+            _ => "another line",
+        };
+        *said.entry(saying).or_default() += 1;
+    }
+}
+
+/// Runs the program on an input and gives its output.
+fn run(program: &str, input: &[u8]) -> Result<Vec<u8>, String> {
+    let mut child = Command::new(program)
+        .stdin(Stdio::piped())
+        .stdout(Stdio::piped())
+        .spawn()
+        .map_err(|error| format!("{program} doesn't start: {error}"))?;
+    let output = talk(&mut child, input);
+    if output.is_err() {
+        // It may have ended meanwhile; then there is nothing to stop.
+        let _ = child.kill();
+    }
+    let status = child
+        .wait()
+        .map_err(|error| format!("{program} can't be waited for: {error}"))?;
+    // The rules say nothing of the exit status, but a program mustn't be ended by a signal.
+    match output {
+        Ok(_) if status.code().is_none() => Err(format!("{program} ended by {status}")),
+        output => output,
+    }
+}
+
+/// Writes the input while reading the output, so that neither side waits for the other.
+fn talk(child: &mut Child, input: &[u8]) -> Result<Vec<u8>, String> {
+    let mut to_child = child.stdin.take().ok_or("no standard input")?;
+    let from_child = child.stdout.take().ok_or("no standard output")?;
+    let input = input.to_vec();
+    let (sender, receiver) = mpsc::channel();
+    std::thread::spawn(move || {
+        // A program that has seen enough may close its input early.
+        let _ = to_child.write_all(&input);
+    });
+    std::thread::spawn(move || {
+        let mut output = Vec::new();
+        let read = from_child.take(LONGEST_OUTPUT).read_to_end(&mut output);
+        // Nobody listens any more if patience has run out.
+        let _ = sender.send(read.map(|_| output));
+    });
+    receiver
+        .recv_timeout(PATIENCE)
+        .map_err(|_| format!("no end of output within {} s", PATIENCE.as_secs()))?
+        .map_err(|error| format!("the output can't be read: {error}"))
+}
+
+/// The first line that differs, and the input if it is short.
+fn difference_text(input: &[u8], output: &[u8], expected: &[u8]) -> String {
+    let lines = |text: &[u8]| -> Vec<String> {
+        text.split_inclusive(|byte| *byte == b'\n')
+            .map(|line| line.escape_ascii().to_string())
+            .collect()
+    };
+    let (output, expected) = (lines(output), lines(expected));
+    let place = (0..output.len().max(expected.len()))
+        .find(|place| output.get(*place) != expected.get(*place))
+        .unwrap_or(0);
+    let shown = &input[..input.len().min(2_000)];
+    format!(
+        "output line {}:\n    {:?} against the reference's {:?}\n    input of {} bytes: \"{}\"",
+        place + 1,
+        output.get(place),
+        expected.get(place),
+        input.len(),
+        shown.escape_ascii()
+    )
+}

@@ -1,0 +1,164 @@
+//! Makes the same call of a system and of the reference and compares everything afterwards.
+
+use crate::call::{answer_text, Call, Kind};
+use crate::guarded::Guarded;
+use crate::rng::Rng;
+use crate::space::Space;
+use crate::tally::Tally;
+use reference::table::{row_start, FIRST_ROW, LIVE, ROWS, WORDS};
+use reference::Reference;
+
+/// A read or take that gave its party a name.
+pub const NAMES_TRAVELLED: &str = "calls by which a party got a new name";
+/// A take that had rows after the taken one.
+pub const ROWS_MOVED: &str = "takes after which later rows moved up";
+/// A call on a table with all rows live.
+pub const TABLE_FULL: &str = "calls on a table with 128 live rows";
+
+/// What is lent in a call.
+struct Desk {
+    space: Guarded,
+    input: Guarded,
+    result: Guarded,
+}
+
+impl Desk {
+    fn new() -> Desk {
+        Desk {
+            space: Guarded::new(),
+            input: Guarded::new(),
+            result: Guarded::new(),
+        }
+    }
+
+    fn lay_out(&mut self, call: &Call, result: &[u64]) {
+        self.input.set(call.input());
+        self.result.set(result);
+    }
+
+    fn make(&mut self, call: &Call, system: &mut dyn Space) -> u32 {
+        call.make(
+            system,
+            self.space.lent_mut(),
+            self.input.lent(),
+            self.result.lent_mut(),
+        )
+    }
+
+    fn differences(&self, other: &Desk) -> Vec<String> {
+        let mut all = self.space.differences(&other.space, "space");
+        all.extend(self.result.differences(&other.result, "result"));
+        all.extend(self.input.differences(&other.input, "fields or roster"));
+        all
+    }
+}
+
+/// A system and the reference, side by side.
+pub struct Duel<'a> {
+    system: &'a mut dyn Space,
+    reference: Reference,
+    systems: Desk,
+    references: Desk,
+    pub tally: Tally,
+}
+
+impl<'a> Duel<'a> {
+    pub fn new(system: &'a mut dyn Space) -> Duel<'a> {
+        Duel {
+            system,
+            reference: Reference::correct(),
+            systems: Desk::new(),
+            references: Desk::new(),
+            tally: Tally::default(),
+        }
+    }
+
+    /// Lends both this space from now on.
+    pub fn set_space(&mut self, words: &[u64]) {
+        self.systems.space.set(words);
+        self.references.space.set(words);
+    }
+
+    /// The space as it is.
+    pub fn space(&self) -> &[u64] {
+        self.references.space.lent()
+    }
+
+    /// Makes the call of both. Gives the answer, or what differs.
+    pub fn call(&mut self, call: &Call, rng: &mut Rng) -> Result<u32, String> {
+        let result: Vec<u64> = (0..call.result_len()).map(|_| rng.word()).collect();
+        self.systems.lay_out(call, &result);
+        self.references.lay_out(call, &result);
+        let before = Sight::of(self.space());
+        let code = self.references.make(call, &mut self.reference);
+        let systems = self.systems.make(call, self.system);
+        let differences = self.systems.differences(&self.references);
+        if systems != code || !differences.is_empty() {
+            return Err(difference_text(call, systems, code, &differences));
+        }
+        self.tally.count(call, code);
+        self.note_happenings(call.kind(), code, before);
+        Ok(code)
+    }
+
+    fn note_happenings(&mut self, kind: Kind, code: u32, before: Sight) {
+        if before.full {
+            self.tally.happened(TABLE_FULL);
+        }
+        if !matches!(kind, Kind::Read | Kind::Take) || !(1..=8).contains(&code) {
+            return;
+        }
+        let after = Sight::of(self.space());
+        if after.holdings != before.holdings {
+            self.tally.happened(NAMES_TRAVELLED);
+        }
+        // The rows before the taken one stay; if the last one was taken, its place is now free.
+        if kind == Kind::Take && after.last_kept_differs(&before) {
+            self.tally.happened(ROWS_MOVED);
+        }
+    }
+}
+
+/// What of a space is looked at before and after a call, to tell what happened.
+struct Sight {
+    full: bool,
+    holdings: Vec<u64>,
+    rows: Vec<u64>,
+}
+
+impl Sight {
+    fn of(space: &[u64]) -> Sight {
+        if space.len() != WORDS || space[LIVE] > ROWS as u64 {
+            return Sight {
+                full: false,
+                holdings: Vec::new(),
+                rows: Vec::new(),
+            };
+        }
+        let live = space[LIVE] as usize;
+        Sight {
+            full: live == ROWS,
+            holdings: space[LIVE + 1..FIRST_ROW].to_vec(),
+            rows: space[FIRST_ROW..row_start(live)].to_vec(),
+        }
+    }
+
+    /// Whether the rows that are left aren't just the first of those before.
+    fn last_kept_differs(&self, before: &Sight) -> bool {
+        !before.rows.starts_with(&self.rows)
+    }
+}
+
+fn difference_text(call: &Call, systems: u32, references: u32, differences: &[String]) -> String {
+    let kind = call.kind();
+    let mut text = format!(
+        "{call:?}\n    answers: {} against the reference's {}",
+        answer_text(kind, systems),
+        answer_text(kind, references)
+    );
+    for difference in differences {
+        text.push_str("\n    ");
+        text.push_str(difference);
+    }
+    text
+}

@@ -1,0 +1,526 @@
+//! Isolation, run for real: two runs in which a watched group makes the same calls, while others
+//! do as they like out of its grasp, must look the same to the group.
+
+use crate::call::{answer_text, is_refusal, Call, Kind};
+use crate::pool::{Maker, Mix, Pool, ALL_PARTIES};
+use crate::report::Report;
+use crate::rng::Rng;
+use crate::space::Space;
+use reference::names::{key_bit, partition_bit, PARTIES};
+use reference::table::{live_rows, KEYS, PARTITIONS, WORDS, WRITER};
+use reference::{co_key, Pair, Reference, Variant};
+use std::collections::BTreeMap;
+
+const SEED: u64 = 5_001;
+const CONTROL_SEED: u64 = 5_002;
+const VARIANT_SEED: u64 = 5_003;
+const PAIRS: u64 = 3_000;
+const CONTROL_PAIRS: u64 = 400;
+
+/// Whether the premise is kept, and if not, what breaks it.
+#[derive(Clone, Copy, Debug, PartialEq, Eq)]
+enum Premise {
+    Kept,
+    PutsInGrasp,
+    TakesInGrasp,
+    UnequalHoldings,
+}
+
+/// A set of names, as words of holdings.
+#[derive(Clone, Copy, Debug)]
+struct Names {
+    partitions: u64,
+    keys: u64,
+}
+
+impl Names {
+    /// Whether these contain the pair's partition and the co-key of its key, both in range.
+    fn grasp(self, pair: Pair) -> bool {
+        self.partitions & partition_bit(pair.partition) != 0
+            && self.keys & key_bit(co_key(pair.key)) != 0
+    }
+
+    fn contain(self, partitions: u64, keys: u64) -> bool {
+        partitions & !self.partitions == 0 && keys & !self.keys == 0
+    }
+}
+
+/// The parties of the group and the others, with the names the group has at opening.
+#[derive(Clone, Debug)]
+struct Group {
+    members: Vec<u32>,
+    others: Vec<u32>,
+    names: Names,
+}
+
+impl Group {
+    /// Mostly one to four parties, sometimes none or all.
+    fn choose(rng: &mut Rng) -> Group {
+        let mut parties = ALL_PARTIES.to_vec();
+        rng.shuffle(&mut parties);
+        let usual = rng.between(1, 4);
+        let any = rng.between(0, PARTIES);
+        let mut others = parties.split_off(rng.pick(&[usual, usual, usual, any]));
+        if others.is_empty() {
+            // Only calls with a party above 7 are from elsewhere then.
+            others.push(8);
+        }
+        Group {
+            members: parties,
+            others,
+            names: Names {
+                partitions: partition_bit(0),
+                keys: key_bit(0),
+            },
+        }
+    }
+
+    fn has(&self, party: Option<u32>) -> bool {
+        party.is_some_and(|party| self.members.contains(&party))
+    }
+
+    fn add_names(&mut self, roster: &[u64]) {
+        for member in &self.members {
+            self.names.partitions |= roster[*member as usize];
+            self.names.keys |= roster[PARTIES + *member as usize];
+        }
+    }
+
+    /// Whether an unrefused call from elsewhere is a put or a take in the group's grasp.
+    fn grasps(&self, call: &Call) -> bool {
+        match call {
+            Call::Put { read, take, .. } => self.names.grasp(*read) || self.names.grasp(*take),
+            Call::Take(query) => self.names.grasp(query.pair),
+            Call::Read(_) | Call::Open { .. } => false,
+        }
+    }
+
+    /// Whether a call from elsewhere that got this answer is as the premise asks.
+    fn allows(&self, premise: Premise, call: &Call, code: u32) -> bool {
+        let broken_on_purpose = match call.kind() {
+            Kind::Put => premise == Premise::PutsInGrasp,
+            Kind::Take => premise == Premise::TakesInGrasp,
+            Kind::Open | Kind::Read => false,
+        };
+        broken_on_purpose || is_refusal(code) || !self.grasps(call)
+    }
+}
+
+/// One run: the opening's roster and the calls after it.
+#[derive(Clone, Debug)]
+struct Run {
+    roster: Vec<u64>,
+    calls: Vec<Call>,
+}
+
+/// Two runs with the same calls of the group.
+struct Twins {
+    group: Group,
+    premise: Premise,
+    runs: [Run; 2],
+}
+
+/// Builds runs call by call, looking at what the reference makes of them.
+struct Builder<'a> {
+    pool: &'a Pool,
+    group: &'a Group,
+    premise: Premise,
+    mix: Mix,
+}
+
+impl Builder<'_> {
+    fn maker<'a>(&'a self, parties: &'a [u32]) -> Maker<'a> {
+        Maker {
+            pool: self.pool,
+            parties,
+            mix: self.mix,
+        }
+    }
+
+    /// A run in which calls from elsewhere stand around the group's calls, which `next` gives.
+    fn run(
+        &self,
+        rng: &mut Rng,
+        roster: Vec<u64>,
+        mut next: impl FnMut(&mut Rng, &[u64]) -> Option<Call>,
+    ) -> Run {
+        let mut space = vec![0; WORDS];
+        let opened = Reference::correct().open(&mut space, &roster);
+        assert_eq!(opened.code(), 0, "the roster is good");
+        let mut calls = Vec::new();
+        let crowd = rng.pick(&[0, 2, 4, 8]);
+        loop {
+            for _ in 0..rng.between(0, crowd) {
+                if let Some(call) = self.foreign_call(rng, &space) {
+                    expect(&call, &mut space);
+                    calls.push(call);
+                }
+            }
+            let Some(call) = next(rng, &space) else {
+                break;
+            };
+            expect(&call, &mut space);
+            calls.push(call);
+        }
+        Run { roster, calls }
+    }
+
+    /// A call from elsewhere that the premise allows, if a few draws give one.
+    fn foreign_call(&self, rng: &mut Rng, space: &[u64]) -> Option<Call> {
+        for _ in 0..8 {
+            let call = self.maker(&self.group.others).call(rng, space);
+            let code = expect(&call, &mut space.to_vec());
+            let foreign = !self.group.has(call.party());
+            if foreign && self.group.allows(self.premise, &call, code) {
+                return Some(call);
+            }
+        }
+        None
+    }
+
+    /// A call by a member.
+    fn group_call(&self, rng: &mut Rng, space: &[u64]) -> Call {
+        loop {
+            let call = self.maker(&self.group.members).call(rng, space);
+            if self.group.has(call.party()) {
+                return call;
+            }
+        }
+    }
+}
+
+/// Makes a call with result words that hold `junk` before; gives the answer and those words.
+fn make(system: &mut dyn Space, call: &Call, space: &mut [u64], junk: u64) -> (u32, Vec<u64>) {
+    let mut result = vec![junk; call.result_len()];
+    let code = call.make(system, space, call.input(), &mut result);
+    (code, result)
+}
+
+/// What the right reference answers.
+fn expect(call: &Call, space: &mut [u64]) -> u32 {
+    make(&mut Reference::correct(), call, space, 0).0
+}
+
+fn build_twins(rng: &mut Rng, premise: Premise) -> Twins {
+    let pool = Pool::random(rng, 4, 3);
+    let mut group = Group::choose(rng);
+    let rosters = rosters(rng, &pool, &group, premise);
+    group.add_names(&rosters[0]);
+    let builder = Builder {
+        pool: &pool,
+        group: &group,
+        premise,
+        mix: Mix {
+            puts: rng.pick(&[35, 50, 70]),
+            reads: 15,
+            broken: 4,
+        },
+    };
+    let [first_roster, second_roster] = rosters;
+    let mut left = match group.members.is_empty() {
+        true => 0,
+        false => rng.between(0, 60),
+    };
+    let first = builder.run(rng, first_roster, |rng, space| {
+        left = usize::checked_sub(left, 1)?;
+        Some(builder.group_call(rng, space))
+    });
+    let mut groups = first.calls.iter().filter(|call| group.has(call.party()));
+    let second = builder.run(rng, second_roster, |_, _| groups.next().cloned());
+    Twins {
+        premise,
+        runs: [first, second],
+        group,
+    }
+}
+
+/// Two rosters with equal holdings of each member, and others as they come.
+fn rosters(rng: &mut Rng, pool: &Pool, group: &Group, premise: Premise) -> [Vec<u64>; 2] {
+    let mut first = pool.roster(rng, 75);
+    let mut second = pool.roster(rng, 75);
+    for member in &group.members {
+        let member = *member as usize;
+        let (partitions, keys) = pool.holdings(rng, 45);
+        for roster in [&mut first, &mut second] {
+            (roster[member], roster[PARTIES + member]) = (partitions, keys);
+        }
+    }
+    if premise == Premise::UnequalHoldings && !group.members.is_empty() {
+        let member = rng.pick(&group.members) as usize;
+        second[member] ^= partition_bit(rng.pick(&pool.partitions).max(1));
+    }
+    [first, second]
+}
+
+/// What the group sees, after the opening, after each of its calls and at the end.
+#[derive(Clone, Debug, PartialEq, Eq)]
+struct Sight {
+    answer: u32,
+    fields: Vec<u64>,
+    entries: Vec<Vec<u64>>,
+    holdings: Vec<(u64, u64)>,
+}
+
+/// What came of watching a pair of runs.
+enum Outcome {
+    Alike,
+    Different(String),
+    /// The system answered calls from elsewhere so that the premise isn't met.
+    PremiseNotMet(String),
+}
+
+/// How often what happened.
+#[derive(Default)]
+struct Counts(BTreeMap<&'static str, u64>);
+
+impl Counts {
+    fn add(&mut self, what: &'static str) {
+        *self.0.entry(what).or_default() += 1;
+    }
+
+    fn of(&self, what: &'static str) -> u64 {
+        *self.0.get(what).unwrap_or(&0)
+    }
+}
+
+const GROUP_CALLS: &str = "calls of the group";
+const GROUP_FOUND: &str = "of them found";
+const ROWS_DIFFER: &str = "pairs with the group's entries in different rows at the end";
+const FOREIGN_REFUSED: &str = "calls from elsewhere refused";
+const FOREIGN: [(Kind, bool, &str); 5] = [
+    (Kind::Put, false, "puts from elsewhere done"),
+    (Kind::Read, true, "reads from elsewhere found"),
+    (Kind::Read, false, "reads from elsewhere none"),
+    (Kind::Take, true, "takes from elsewhere found"),
+    (Kind::Take, false, "takes from elsewhere none"),
+];
+
+impl Counts {
+    fn foreign(&mut self, kind: Kind, code: u32) {
+        if is_refusal(code) {
+            self.add(FOREIGN_REFUSED);
+        }
+        for (of_kind, found, what) in FOREIGN {
+            if kind == of_kind && !is_refusal(code) && (code > 0) == found {
+                self.add(what);
+            }
+        }
+    }
+
+    fn unrefused_foreign(&self) -> u64 {
+        FOREIGN.iter().map(|(_, _, what)| self.of(what)).sum()
+    }
+}
+
+impl Twins {
+    fn watch(&self, system: &mut dyn Space, rng: &mut Rng, counts: &mut Counts) -> Outcome {
+        let mut seen = Vec::new();
+        let mut rows = Vec::new();
+        for number in 0..2 {
+            let mut space = vec![0; WORDS];
+            match self.watch_run(system, rng, number, &mut space, counts) {
+                Ok(sights) => seen.push(sights),
+                Err(outcome) => return outcome,
+            }
+            rows.push(self.group_rows(&space));
+        }
+        if rows[0] != rows[1] {
+            counts.add(ROWS_DIFFER);
+        }
+        match first_difference(&seen[0], &seen[1]) {
+            Some(text) => Outcome::Different(text),
+            None => Outcome::Alike,
+        }
+    }
+
+    fn watch_run(
+        &self,
+        system: &mut dyn Space,
+        rng: &mut Rng,
+        number: usize,
+        space: &mut [u64],
+        counts: &mut Counts,
+    ) -> Result<Vec<Sight>, Outcome> {
+        let run = &self.runs[number];
+        let opened = system.open(space, &run.roster);
+        let mut sights = vec![self.sight(space, opened, &[])];
+        self.check_names(number, 0, space)?;
+        for (index, call) in run.calls.iter().enumerate() {
+            // What the result held before is free, so it is different in every run.
+            let (code, result) = make(system, call, space, rng.word());
+            self.check_names(number, index + 1, space)?;
+            if self.group.has(call.party()) {
+                let fields = found_fields(call.kind(), code, &result);
+                counts.add(GROUP_CALLS);
+                if !fields.is_empty() {
+                    counts.add(GROUP_FOUND);
+                }
+                sights.push(self.sight(space, code, fields));
+            } else {
+                self.check_premise(number, index + 1, call, code)?;
+                counts.foreign(call.kind(), code);
+            }
+        }
+        sights.push(self.sight(space, 0, &[]));
+        Ok(sights)
+    }
+
+    fn sight(&self, space: &[u64], answer: u32, fields: &[u64]) -> Sight {
+        Sight {
+            answer,
+            fields: fields.to_vec(),
+            entries: live_rows(space)
+                .filter(|row| self.writes(row))
+                .map(<[u64]>::to_vec)
+                .collect(),
+            holdings: self
+                .group
+                .members
+                .iter()
+                .map(|member| holdings(space, *member as usize))
+                .collect(),
+        }
+    }
+
+    fn writes(&self, row: &[u64]) -> bool {
+        self.group.has(u32::try_from(row[WRITER]).ok())
+    }
+
+    fn group_rows(&self, space: &[u64]) -> Vec<usize> {
+        live_rows(space)
+            .enumerate()
+            .filter(|(_, row)| self.writes(row))
+            .map(|(index, _)| index)
+            .collect()
+    }
+
+    /// After every beginning, no member holds a name outside the group's names.
+    fn check_names(&self, number: usize, calls: usize, space: &[u64]) -> Result<(), Outcome> {
+        for member in &self.group.members {
+            let (partitions, keys) = holdings(space, *member as usize);
+            if !self.group.names.contain(partitions, keys) {
+                return Err(Outcome::Different(format!(
+                    "run {number}, after {calls} calls: member {member} holds {partitions:#x} and \
+                     {keys:#x}, more than the group's {:x?}",
+                    self.group.names
+                )));
+            }
+        }
+        Ok(())
+    }
+
+    fn check_premise(
+        &self,
+        number: usize,
+        calls: usize,
+        call: &Call,
+        code: u32,
+    ) -> Result<(), Outcome> {
+        if self.group.allows(self.premise, call, code) {
+            return Ok(());
+        }
+        Err(Outcome::PremiseNotMet(format!(
+            "run {number}, call {calls} from elsewhere is in the grasp: {call:?} {}",
+            answer_text(call.kind(), code)
+        )))
+    }
+}
+
+/// The first n result words after "found" with count n, and otherwise none.
+fn found_fields(kind: Kind, code: u32, result: &[u64]) -> &[u64] {
+    match kind {
+        Kind::Read | Kind::Take if code as usize <= result.len() => &result[..code as usize],
+        _ => &[],
+    }
+}
+
+fn holdings(space: &[u64], party: usize) -> (u64, u64) {
+    (space[PARTITIONS + party], space[KEYS + party])
+}
+
+fn first_difference(first: &[Sight], second: &[Sight]) -> Option<String> {
+    let place =
+        (0..first.len().max(second.len())).find(|place| first.get(*place) != second.get(*place))?;
+    Some(format!(
+        "the group's call {place} (0 is the opening, the last is the end):\n    {:?}\n    {:?}",
+        first.get(place),
+        second.get(place)
+    ))
+}
+
+/// Compares pairs that meet the premise.
+fn isolation(system: &mut dyn Space) -> Result<String, String> {
+    let mut counts = Counts::default();
+    for number in 0..PAIRS {
+        let mut rng = Rng::new(SEED, number);
+        let twins = build_twins(&mut rng, Premise::Kept);
+        match twins.watch(system, &mut rng, &mut counts) {
+            Outcome::Alike => {}
+            Outcome::Different(text) | Outcome::PremiseNotMet(text) => {
+                return Err(format!("seed {SEED}, pair {number}, {text}"));
+            }
+        }
+    }
+    for (what, count) in &counts.0 {
+        println!("  {what}: {count}");
+    }
+    let never = FOREIGN.map(|(_, _, what)| what).into_iter().chain([
+        GROUP_FOUND,
+        ROWS_DIFFER,
+        FOREIGN_REFUSED,
+    ]);
+    for what in never {
+        if counts.of(what) == 0 {
+            return Err(format!("seed {SEED}: never happened: {what}"));
+        }
+    }
+    Ok(format!(
+        "seed {SEED}, {PAIRS} pairs alike, {} unrefused calls from elsewhere",
+        counts.unrefused_foreign()
+    ))
+}
+
+/// How many pairs with this premise differ, of `CONTROL_PAIRS`.
+fn differing_pairs(system: &mut dyn Space, seed: u64, premise: Premise) -> Result<String, String> {
+    let mut counts = Counts::default();
+    let mut differing = 0;
+    for number in 0..CONTROL_PAIRS {
+        let mut rng = Rng::new(seed, number);
+        let twins = build_twins(&mut rng, premise);
+        if let Outcome::Different(_) = twins.watch(system, &mut rng, &mut counts) {
+            differing += 1;
+        }
+    }
+    let text = format!("seed {seed}, {differing} of {CONTROL_PAIRS} pairs differ");
+    match differing {
+        0 => Err(text),
+        _ => Ok(text),
+    }
+}
+
+/// Isolation of a system, and controls in which the premise is broken on purpose.
+pub fn check(report: &mut Report, who: &str, system: &mut dyn Space) {
+    report.check(&format!("isolation, {who}"), isolation(system));
+    for premise in [
+        Premise::PutsInGrasp,
+        Premise::TakesInGrasp,
+        Premise::UnequalHoldings,
+    ] {
+        let outcome = differing_pairs(system, CONTROL_SEED, premise);
+        report.check(&format!("isolation, {who}: control {premise:?}"), outcome);
+    }
+}
+
+/// Blunders that let the group see what it mustn't; the comparison has to show it.
+pub fn check_variants(report: &mut Report) {
+    for variant in [
+        Variant::ComparesKeyNotCoKey,
+        Variant::DefaultPartitionMatchesAll,
+        Variant::WildcardsMatchPartition,
+        Variant::GivesCoKeyToo,
+    ] {
+        let mut system = Reference::with(variant);
+        let outcome = differing_pairs(&mut system, VARIANT_SEED, Premise::Kept);
+        report.check(&format!("isolation shows {variant:?}"), outcome);
+    }
+}

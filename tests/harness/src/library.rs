@@ -1,0 +1,131 @@
+//! The linked library, called through the declarations of `space.h`.
+
+use crate::space::Space;
+use reference::Pair;
+
+extern "C" {
+    fn space_open(space: *mut u64, space_len: usize, roster: *const u64, roster_len: usize) -> u32;
+
+    fn space_put(
+        space: *mut u64,
+        space_len: usize,
+        party: u32,
+        read_partition: u32,
+        read_key: i32,
+        take_partition: u32,
+        take_key: i32,
+        fields: *const u64,
+        field_count: usize,
+    ) -> u32;
+
+    fn space_read(
+        space: *mut u64,
+        space_len: usize,
+        party: u32,
+        partition: u32,
+        key: i32,
+        fields: *const u64,
+        field_count: usize,
+        result: *mut u64,
+        result_len: usize,
+    ) -> u32;
+
+    fn space_take(
+        space: *mut u64,
+        space_len: usize,
+        party: u32,
+        partition: u32,
+        key: i32,
+        fields: *const u64,
+        field_count: usize,
+        result: *mut u64,
+        result_len: usize,
+    ) -> u32;
+}
+
+/// The calls of `libspace_c.a`.
+pub struct Library;
+
+// Sound as far as the header goes: a slice's pointer is never null, and slices that are lent
+// together as mutable never overlap.
+impl Space for Library {
+    fn open(&mut self, space: &mut [u64], roster: &[u64]) -> u32 {
+        unsafe {
+            space_open(
+                space.as_mut_ptr(),
+                space.len(),
+                roster.as_ptr(),
+                roster.len(),
+            )
+        }
+    }
+
+    fn put(
+        &mut self,
+        space: &mut [u64],
+        party: u32,
+        read: Pair,
+        take: Pair,
+        fields: &[u64],
+    ) -> u32 {
+        unsafe {
+            space_put(
+                space.as_mut_ptr(),
+                space.len(),
+                party,
+                read.partition,
+                read.key,
+                take.partition,
+                take.key,
+                fields.as_ptr(),
+                fields.len(),
+            )
+        }
+    }
+
+    fn read(
+        &mut self,
+        space: &mut [u64],
+        party: u32,
+        pair: Pair,
+        fields: &[u64],
+        result: &mut [u64],
+    ) -> u32 {
+        unsafe {
+            space_read(
+                space.as_mut_ptr(),
+                space.len(),
+                party,
+                pair.partition,
+                pair.key,
+                fields.as_ptr(),
+                fields.len(),
+                result.as_mut_ptr(),
+                result.len(),
+            )
+        }
+    }
+
+    fn take(
+        &mut self,
+        space: &mut [u64],
+        party: u32,
+        pair: Pair,
+        fields: &[u64],
+        result: &mut [u64],
+    ) -> u32 {
+        unsafe {
+            space_take(
+                space.as_mut_ptr(),
+                space.len(),
+                party,
+                pair.partition,
+                pair.key,
+                fields.as_ptr(),
+                fields.len(),
+                result.as_mut_ptr(),
+                result.len(),
+            )
+        }
+    }
+}

@@ -1,0 +1,119 @@
+//! Tests the shared space's library and its console program against the reference.
+//!
+//! Parts are named as arguments: `cases`, `differential` and `isolation` test the linked library,
+//! `console` the program that the variable `CONSOLE` names, `variants` the harness itself, and
+//! `reference` does with the reference what the first three do with the library. A part that is
+//! named must be runnable. Without arguments all parts run except those that lack a library or a
+//! console, which are printed as skipped. The library is linked if `SPACE_LIB_DIR` names its
+//! directory when the harness is built.
+
+mod call;
+mod cases;
+mod console;
+mod differential;
+mod duel;
+mod guarded;
+mod isolation;
+#[cfg(library_linked)]
+mod library;
+mod pool;
+mod report;
+mod rng;
+mod scripts;
+mod space;
+mod tables;
+mod tally;
+mod variants;
+
+use reference::Reference;
+use report::Report;
+use space::Space;
+use std::process::ExitCode;
+use std::time::{Duration, Instant};
+
+/// The whole run is ended after this time, whatever hangs.
+const TIME_LIMIT: Duration = Duration::from_secs(600);
+
+const PARTS: [&str; 6] = [
+    "reference",
+    "variants",
+    "cases",
+    "differential",
+    "isolation",
+    "console",
+];
+
+fn main() -> ExitCode {
+    let named: Vec<String> = std::env::args().skip(1).collect();
+    if let Some(unknown) = named.iter().find(|name| !PARTS.contains(&name.as_str())) {
+        eprintln!("no part {unknown}; parts are {}", PARTS.join(", "));
+        return ExitCode::from(2);
+    }
+    end_after(TIME_LIMIT);
+    let mut report = Report::default();
+    for part in PARTS {
+        let wanted = named.iter().any(|name| name == part);
+        if wanted || named.is_empty() {
+            let start = Instant::now();
+            if let Err(lack) = run_part(&mut report, part) {
+                skip(&mut report, part, lack, wanted);
+            }
+            println!("  {part}: {:.1} s", start.elapsed().as_secs_f64());
+        }
+    }
+    match report.finish() {
+        true => ExitCode::SUCCESS,
+        false => ExitCode::FAILURE,
+    }
+}
+
+/// Runs a part, or says what it lacks.
+fn run_part(report: &mut Report, part: &str) -> Result<(), &'static str> {
+    match part {
+        "reference" => {
+            let mut reference = Reference::correct();
+            cases::check(report, "reference", &mut reference);
+            differential::compare(report, "reference", &mut reference);
+            isolation::check(report, "reference", &mut reference);
+        }
+        "variants" => {
+            variants::check(report);
+            isolation::check_variants(report);
+        }
+        "cases" => cases::check(report, "library", library()?.as_mut()),
+        "differential" => differential::compare(report, "library", library()?.as_mut()),
+        "isolation" => isolation::check(report, "library", library()?.as_mut()),
+        _ => {
+            let program = std::env::var("CONSOLE").map_err(|_| "CONSOLE names no program")?;
+            console::compare(report, &program);
+        }
+    }
+    Ok(())
+}
+
+#[cfg(library_linked)]
+fn library() -> Result<Box<dyn Space>, &'static str> {
+    Ok(Box::new(library::Library))
+}
+
+#[cfg(not(library_linked))]
+fn library() -> Result<Box<dyn Space>, &'static str> {
+    Err("built without SPACE_LIB_DIR, no library is linked")
+}
+
+/// A part that was asked for by name fails if it can't run.
+fn skip(report: &mut Report, part: &str, lack: &str, wanted: bool) {
+    if wanted {
+        report.check(part, Err(lack.to_string()));
+    } else {
+        println!("skipped: {part}: {lack}");
+    }
+}
+
+fn end_after(limit: Duration) {
+    std::thread::spawn(move || {
+        std::thread::sleep(limit);
+        println!("FAILED: not done within {} s", limit.as_secs());
+        std::process::exit(1);
+    });
+}

@@ -1,0 +1,411 @@
+//! Small pools of names, and random calls made from them that often match.
+
+use crate::call::{Call, Kind, Query};
+use crate::rng::Rng;
+use reference::names::{
+    key_bit, key_of_stored, partition_bit, LAST_KEY, LAST_PARTITION, MOST_FIELDS, PARTIES,
+};
+use reference::table::{
+    row_fields, row_start, KEYS, LIVE, PARTITIONS, READ_KEY, READ_PARTITION, ROSTER_WORDS,
+    ROW_WORDS, TAKE_KEY, TAKE_PARTITION,
+};
+use reference::{co_key, Field, Pair};
+
+/// Field and result counts go up to this.
+pub const MOST_WORDS: usize = 20;
+/// Every party.
+pub const ALL_PARTIES: [u32; PARTIES] = [0, 1, 2, 3, 4, 5, 6, 7];
+
+/// The names and messages of a run. Few of each, so that calls meet.
+#[derive(Clone, Debug)]
+pub struct Pool {
+    pub partitions: Vec<u32>,
+    pub keys: Vec<i32>,
+    messages: Vec<u32>,
+    field_count: usize,
+}
+
+impl Pool {
+    /// The defaults with this many partitions and pairs of key and co-key at most.
+    pub fn random(rng: &mut Rng, most_partitions: usize, most_keys: usize) -> Pool {
+        let mut partitions = vec![0];
+        for _ in 0..rng.between(0, most_partitions) {
+            let any = rng.below(LAST_PARTITION as usize + 1) as u32;
+            partitions.push(rng.pick(&[1, 31, 32, LAST_PARTITION, any]));
+        }
+        let mut keys = vec![0];
+        for _ in 0..rng.between(0, most_keys) {
+            let any = rng.between(1, LAST_KEY as usize) as i32;
+            let key = rng.pick(&[1, LAST_KEY, any]);
+            keys.extend([key, co_key(key)]);
+        }
+        Pool {
+            partitions,
+            keys,
+            messages: vec![0, 1, rng.word() as u32, u32::MAX],
+            field_count: rng.between(1, MOST_FIELDS),
+        }
+    }
+
+    /// Partitions and keys to hold, each name of the pool with this chance in a hundred.
+    pub fn holdings(&self, rng: &mut Rng, chance: usize) -> (u64, u64) {
+        let mut partitions = 0;
+        for partition in &self.partitions {
+            if rng.percent(chance) {
+                partitions |= partition_bit(*partition);
+            }
+        }
+        let mut keys = 0;
+        for key in &self.keys {
+            if rng.percent(chance) {
+                keys |= key_bit(*key);
+            }
+        }
+        (partitions, keys)
+    }
+
+    /// A good roster of such holdings.
+    pub fn roster(&self, rng: &mut Rng, chance: usize) -> Vec<u64> {
+        let mut roster = vec![0; ROSTER_WORDS];
+        for party in 0..PARTIES {
+            (roster[party], roster[PARTIES + party]) = self.holdings(rng, chance);
+        }
+        roster
+    }
+
+    /// Mostly the run's own field count.
+    pub fn count(&self, rng: &mut Rng) -> usize {
+        if rng.percent(85) {
+            self.field_count
+        } else {
+            rng.between(1, MOST_FIELDS)
+        }
+    }
+
+    /// Any field of the pool that a put may carry.
+    pub fn field(&self, rng: &mut Rng) -> u64 {
+        match rng.below(3) {
+            0 => Field::Message(rng.pick(&self.messages)),
+            1 => Field::Partition(rng.pick(&self.partitions)),
+            _ => Field::Key(rng.pick(&self.keys)),
+        }
+        .word()
+    }
+
+    pub fn pair(&self, rng: &mut Rng) -> Pair {
+        Pair {
+            partition: rng.pick(&self.partitions),
+            key: rng.pick(&self.keys),
+        }
+    }
+}
+
+/// How often which calls are made, in a hundred.
+#[derive(Clone, Copy, Debug)]
+pub struct Mix {
+    pub puts: usize,
+    pub reads: usize,
+    /// Calls with an argument broken on purpose; some of these with a second one, and so on.
+    pub broken: usize,
+}
+
+/// Makes calls that fit a sound space.
+pub struct Maker<'a> {
+    pub pool: &'a Pool,
+    pub parties: &'a [u32],
+    pub mix: Mix,
+}
+
+impl Maker<'_> {
+    /// A put, read or take that fits this sound space more often than not.
+    pub fn call(&self, rng: &mut Rng, space: &[u64]) -> Call {
+        let kind = match rng.below(100) {
+            dice if dice < self.mix.puts => Kind::Put,
+            dice if dice < self.mix.puts + self.mix.reads => Kind::Read,
+            _ => Kind::Take,
+        };
+        self.call_of_kind(rng, space, kind)
+    }
+
+    /// The same, of a given kind other than an opening.
+    pub fn call_of_kind(&self, rng: &mut Rng, space: &[u64], kind: Kind) -> Call {
+        let mut call = match kind {
+            Kind::Open => unreachable!("openings are made elsewhere"),
+            Kind::Put => self.put(rng, space),
+            Kind::Read => Call::Read(self.query(rng, space, kind)),
+            Kind::Take => Call::Take(self.query(rng, space, kind)),
+        };
+        while rng.percent(self.mix.broken) {
+            break_argument(rng, &mut call);
+            if rng.percent(50) {
+                break;
+            }
+        }
+        call
+    }
+
+    fn put(&self, rng: &mut Rng, space: &[u64]) -> Call {
+        let party = rng.pick(self.parties);
+        let read = self.held_pair(rng, space, party);
+        let take = match rng.percent(50) {
+            true => read,
+            false => self.held_pair(rng, space, party),
+        };
+        let fields = (0..self.pool.count(rng))
+            .map(|_| self.held_field(rng, space, party))
+            .collect();
+        Call::Put {
+            party,
+            read,
+            take,
+            fields,
+        }
+    }
+
+    fn query(&self, rng: &mut Rng, space: &[u64], kind: Kind) -> Query {
+        let live = space[LIVE] as usize;
+        if live == 0 || rng.percent(20) {
+            return self.random_query(rng, space);
+        }
+        let start = row_start(rng.below(live));
+        let row = &space[start..start + ROW_WORDS];
+        self.query_for_row(rng, space, kind, row)
+    }
+
+    fn random_query(&self, rng: &mut Rng, space: &[u64]) -> Query {
+        let party = rng.pick(self.parties);
+        let fields: Vec<u64> = (0..self.pool.count(rng))
+            .map(|_| match rng.percent(60) {
+                true => Field::Wildcard.word(),
+                false => self.held_field(rng, space, party),
+            })
+            .collect();
+        Query {
+            party,
+            pair: self.held_pair(rng, space, party),
+            result_len: rng.between(fields.len(), MOST_WORDS),
+            fields,
+        }
+    }
+
+    /// A template that matches this row, or nearly so.
+    fn query_for_row(&self, rng: &mut Rng, space: &[u64], kind: Kind, row: &[u64]) -> Query {
+        let (partition, stored) = match kind {
+            Kind::Take => (row[TAKE_PARTITION], row[TAKE_KEY]),
+            _ => (row[READ_PARTITION], row[READ_KEY]),
+        };
+        let pair = Pair {
+            partition: partition as u32,
+            key: co_key(key_of_stored(stored).expect("a sound row stores a key")),
+        };
+        let party = self.party_that_holds(rng, space, pair);
+        let fields: Vec<u64> = row_fields(row)
+            .iter()
+            .map(|word| self.template_field(rng, space, party, *word))
+            .collect();
+        Query {
+            party,
+            pair,
+            result_len: rng.between(fields.len(), MOST_WORDS),
+            fields,
+        }
+    }
+
+    fn template_field(&self, rng: &mut Rng, space: &[u64], party: u32, word: u64) -> u64 {
+        let holds = holds_names_of(space, party, word);
+        match rng.below(100) {
+            0..60 => Field::Wildcard.word(),
+            60..63 => self.pool.field(rng),
+            63..98 if !holds => Field::Wildcard.word(),
+            _ => word,
+        }
+    }
+
+    /// Mostly one that holds the pair, if there is one.
+    fn party_that_holds(&self, rng: &mut Rng, space: &[u64], pair: Pair) -> u32 {
+        let holders: Vec<u32> = self
+            .parties
+            .iter()
+            .copied()
+            .filter(|party| holds_pair(space, *party, pair))
+            .collect();
+        if holders.is_empty() || rng.percent(8) {
+            rng.pick(self.parties)
+        } else {
+            rng.pick(&holders)
+        }
+    }
+
+    /// Mostly a pair of the pool that the party holds.
+    fn held_pair(&self, rng: &mut Rng, space: &[u64], party: u32) -> Pair {
+        for _ in 0..6 {
+            let pair = self.pool.pair(rng);
+            if holds_pair(space, party, pair) {
+                return pair;
+            }
+        }
+        match rng.percent(80) {
+            true => Pair {
+                partition: 0,
+                key: 0,
+            },
+            false => self.pool.pair(rng),
+        }
+    }
+
+    /// Mostly a message, or a name that the party holds.
+    fn held_field(&self, rng: &mut Rng, space: &[u64], party: u32) -> u64 {
+        let field = self.pool.field(rng);
+        if holds_names_of(space, party, field) || rng.percent(4) {
+            field
+        } else {
+            u64::from(rng.pick(&self.pool.messages))
+        }
+    }
+}
+
+fn holds_pair(space: &[u64], party: u32, pair: Pair) -> bool {
+    let party = party as usize;
+    party < PARTIES
+        && space[PARTITIONS + party] & partition_bit(pair.partition) != 0
+        && space[KEYS + party] & key_bit(pair.key) != 0
+}
+
+fn holds_names_of(space: &[u64], party: u32, word: u64) -> bool {
+    let pair = match Field::from_word(word) {
+        Some(Field::Partition(partition)) => Pair { partition, key: 0 },
+        Some(Field::Key(key)) => Pair { partition: 0, key },
+        _ => return true,
+    };
+    holds_pair(space, party, pair)
+}
+
+/// Breaks one argument: out of range, at an end of its type, or a name perhaps not held.
+fn break_argument(rng: &mut Rng, call: &mut Call) {
+    match rng.below(7) {
+        0 => break_party(rng, call),
+        1 => break_count(rng, call),
+        2 => break_pair(rng, call),
+        3 => break_field(rng, call),
+        4 => break_result(rng, call),
+        5 => *some_pair(rng, call) = any_pair(rng),
+        _ => set_some_field(rng, call, any_name),
+    }
+}
+
+fn break_party(rng: &mut Rng, call: &mut Call) {
+    let any = rng.word() as u32;
+    let bad = rng.pick(&[8, 9, 15, 256, 257, 65_536, 1 << 31, u32::MAX, any]);
+    match call {
+        Call::Open { .. } => {}
+        Call::Put { party, .. } => *party = bad,
+        Call::Read(query) | Call::Take(query) => query.party = bad,
+    }
+}
+
+fn break_count(rng: &mut Rng, call: &mut Call) {
+    let count = match rng.percent(40) {
+        true => 0,
+        false => rng.between(MOST_FIELDS + 1, MOST_WORDS),
+    };
+    let word = rng.pick(&[0, 1, Field::Wildcard.word(), u64::MAX]);
+    fields_of(call).resize(count, word);
+    if let Call::Read(query) | Call::Take(query) = call {
+        query.result_len = rng.between(0, MOST_WORDS);
+    }
+}
+
+fn break_pair(rng: &mut Rng, call: &mut Call) {
+    let any = rng.word();
+    let pair = some_pair(rng, call);
+    if rng.percent(50) {
+        pair.partition = rng.pick(&[64, 65, 128, 256, 320, 1 << 31, u32::MAX, any as u32]);
+    } else {
+        let ends = [i32::MIN, i32::MIN + 1, i32::MAX, any as i32];
+        let near = [-33, -32, 32, 33, 63, 64, -64, 256, -256, 65_536];
+        pair.key = match rng.percent(50) {
+            true => rng.pick(&ends),
+            false => rng.pick(&near),
+        };
+    }
+}
+
+fn break_field(rng: &mut Rng, call: &mut Call) {
+    set_some_field(rng, call, |rng| {
+        let any = rng.word();
+        rng.pick(&[
+            Field::Partition(64).word(),
+            Field::Partition(u32::MAX).word(),
+            Field::Key(0).word() + 32,
+            Field::Key(0).word() | u64::from(u32::MAX),
+            Field::Wildcard.word(),
+            Field::Wildcard.word() + 1,
+            Field::Wildcard.word() | u64::from(u32::MAX),
+            4 << 32,
+            (4 << 32) + 5,
+            1 << 63,
+            (1 << 63) | Field::Partition(0).word(),
+            u64::MAX,
+            any,
+        ])
+    });
+}
+
+fn break_result(rng: &mut Rng, call: &mut Call) {
+    if let Call::Read(query) | Call::Take(query) = call {
+        query.result_len = rng.below(query.fields.len().max(1));
+    }
+}
+
+fn any_pair(rng: &mut Rng) -> Pair {
+    Pair {
+        partition: rng.below(LAST_PARTITION as usize + 1) as u32,
+        key: rng.below(2 * LAST_KEY as usize + 1) as i32 - LAST_KEY,
+    }
+}
+
+fn any_name(rng: &mut Rng) -> u64 {
+    let pair = any_pair(rng);
+    match rng.percent(50) {
+        true => Field::Partition(pair.partition).word(),
+        false => Field::Key(pair.key).word(),
+    }
+}
+
+fn some_pair<'a>(rng: &mut Rng, call: &'a mut Call) -> &'a mut Pair {
+    match call {
+        Call::Open { .. } => unreachable!("an opening has no pair"),
+        Call::Put { read, take, .. } => match rng.percent(50) {
+            true => read,
+            false => take,
+        },
+        Call::Read(query) | Call::Take(query) => &mut query.pair,
+    }
+}
+
+fn fields_of(call: &mut Call) -> &mut Vec<u64> {
+    match call {
+        Call::Open { .. } => unreachable!("an opening has no fields"),
+        Call::Put { fields, .. } => fields,
+        Call::Read(query) | Call::Take(query) => &mut query.fields,
+    }
+}
+
+fn set_some_field(rng: &mut Rng, call: &mut Call, word: impl Fn(&mut Rng) -> u64) {
+    let count = fields_of(call).len();
+    if count > 0 {
+        let place = rng.below(count);
+        fields_of(call)[place] = word(rng);
+    }
+}
+
+/// A roster that an opening turns away.
+pub fn broken_roster(rng: &mut Rng, mut roster: Vec<u64>) -> Vec<u64> {
+    if rng.percent(50) {
+        let lengths = [0, 1, 8, 15, 17, 20];
+        roster.resize(rng.pick(&lengths), 0);
+    } else {
+        roster[rng.between(PARTIES, ROSTER_WORDS - 1)] |= 1 << 63;
+    }
+    roster
+}

@@ -1,0 +1,69 @@
+//! What is tested: anything with the four calls, answering as the C interface does.
+
+use reference::{Pair, Reference};
+
+/// The four calls. An answer is 0 for "done" and "none", 1 to 8 for "found" with that count, and
+/// 100 plus its number for a refusal.
+pub trait Space {
+    fn open(&mut self, space: &mut [u64], roster: &[u64]) -> u32;
+
+    fn put(&mut self, space: &mut [u64], party: u32, read: Pair, take: Pair, fields: &[u64])
+        -> u32;
+
+    fn read(
+        &mut self,
+        space: &mut [u64],
+        party: u32,
+        pair: Pair,
+        fields: &[u64],
+        result: &mut [u64],
+    ) -> u32;
+
+    fn take(
+        &mut self,
+        space: &mut [u64],
+        party: u32,
+        pair: Pair,
+        fields: &[u64],
+        result: &mut [u64],
+    ) -> u32;
+}
+
+impl Space for Reference {
+    fn open(&mut self, space: &mut [u64], roster: &[u64]) -> u32 {
+        Reference::open(self, space, roster).code()
+    }
+
+    fn put(
+        &mut self,
+        space: &mut [u64],
+        party: u32,
+        read: Pair,
+        take: Pair,
+        fields: &[u64],
+    ) -> u32 {
+        Reference::put(self, space, party, read, take, fields).code()
+    }
+
+    fn read(
+        &mut self,
+        space: &mut [u64],
+        party: u32,
+        pair: Pair,
+        fields: &[u64],
+        result: &mut [u64],
+    ) -> u32 {
+        Reference::read(self, space, party, pair, fields, result).code()
+    }
+
+    fn take(
+        &mut self,
+        space: &mut [u64],
+        party: u32,
+        pair: Pair,
+        fields: &[u64],
+        result: &mut [u64],
+    ) -> u32 {
+        Reference::take(self, space, party, pair, fields, result).code()
+    }
+}

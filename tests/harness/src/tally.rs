@@ -1,0 +1,119 @@
+//! Counts of the answers that each kind of call reached.
+
+use crate::call::{answer_text, Call, Kind};
+use crate::pool::MOST_WORDS;
+use std::collections::{BTreeMap, BTreeSet};
+
+/// The counts, and how often some things happened that no answer tells.
+#[derive(Default)]
+pub struct Tally {
+    counts: BTreeMap<(usize, u32), u64>,
+    happenings: BTreeMap<&'static str, u64>,
+    field_counts: BTreeSet<usize>,
+    result_counts: BTreeSet<usize>,
+}
+
+/// Whether the rules make an answer of this kind of call possible.
+fn possible(kind: Kind, code: u32) -> bool {
+    match kind {
+        Kind::Open => matches!(code, 0 | 101 | 109),
+        Kind::Put => matches!(code, 0 | 101..=105 | 107 | 108),
+        Kind::Read | Kind::Take => matches!(code, 0..=8 | 101..=107),
+    }
+}
+
+fn codes() -> impl Iterator<Item = u32> {
+    (0..=8).chain(101..=109)
+}
+
+impl Tally {
+    pub fn count(&mut self, call: &Call, code: u32) {
+        let kind = call.kind();
+        *self.counts.entry((kind as usize, code)).or_default() += 1;
+        if kind != Kind::Open {
+            self.field_counts.insert(call.input().len());
+        }
+        if matches!(kind, Kind::Read | Kind::Take) {
+            self.result_counts.insert(call.result_len());
+        }
+    }
+
+    pub fn happened(&mut self, what: &'static str) {
+        *self.happenings.entry(what).or_default() += 1;
+    }
+
+    pub fn calls(&self) -> u64 {
+        self.counts.values().sum()
+    }
+
+    fn of(&self, kind: Kind, code: u32) -> u64 {
+        *self.counts.get(&(kind as usize, code)).unwrap_or(&0)
+    }
+
+    /// The table of counts, a `-` where the rules allow no such answer.
+    pub fn table(&self) -> String {
+        let mut text = format!(
+            "  {:<12}{:>10}{:>10}{:>10}{:>10}\n",
+            "answer", "open", "put", "read", "take"
+        );
+        for code in codes() {
+            let name = match code {
+                0 => "done or none".to_string(),
+                _ => answer_text(Kind::Read, code),
+            };
+            text.push_str(&format!("  {name:<12}"));
+            for kind in Kind::ALL {
+                let cell = match possible(kind, code) {
+                    true => self.of(kind, code).to_string(),
+                    false => "-".to_string(),
+                };
+                text.push_str(&format!("{cell:>10}"));
+            }
+            text.push('\n');
+        }
+        for (what, count) in &self.happenings {
+            text.push_str(&format!("  {what}: {count}\n"));
+        }
+        text
+    }
+
+    /// Fails on a possible answer never reached, an impossible one reached, and anything of
+    /// `expected` that never happened.
+    pub fn check(&self, expected: &[&'static str]) -> Result<String, String> {
+        let mut missing = Vec::new();
+        for kind in Kind::ALL {
+            for code in codes() {
+                if possible(kind, code) && self.of(kind, code) == 0 {
+                    missing.push(format!("{kind:?}: {}", answer_text(kind, code)));
+                }
+            }
+        }
+        missing.extend(
+            expected
+                .iter()
+                .filter(|what| !self.happenings.contains_key(*what))
+                .map(|what| what.to_string()),
+        );
+        for count in 0..=MOST_WORDS {
+            if !self.field_counts.contains(&count) {
+                missing.push(format!("{count} fields"));
+            }
+            if !self.result_counts.contains(&count) {
+                missing.push(format!("{count} result words"));
+            }
+        }
+        if !missing.is_empty() {
+            return Err(format!("never reached: {}", missing.join(", ")));
+        }
+        for (kind, code) in self.counts.keys() {
+            let kind = Kind::ALL[*kind];
+            if !possible(kind, *code) {
+                return Err(format!("{kind:?} answered {}", answer_text(kind, *code)));
+            }
+        }
+        Ok(format!(
+            "{} calls, every answer, 0 to {MOST_WORDS} fields and result words reached",
+            self.calls()
+        ))
+    }
+}

@@ -1,0 +1,21 @@
+//! The harness itself is tested: each wrong variant of the reference must be caught.
+
+use crate::differential::first_difference;
+use crate::report::Report;
+use reference::{Reference, Variant};
+
+/// Compares every wrong variant with the right reference.
+pub fn check(report: &mut Report) {
+    let wrong = Variant::BLUNDERS
+        .into_iter()
+        .chain(Variant::SLIPS)
+        .chain(Variant::skipped_clauses());
+    for variant in wrong {
+        let in_damage = matches!(variant, Variant::Skips(_));
+        let outcome = match first_difference(&mut Reference::with(variant), in_damage) {
+            Some((calls, _)) => Ok(format!("after {calls} calls alike")),
+            None => Err("not caught".to_string()),
+        };
+        report.check(&format!("differential catches {variant:?}"), outcome);
+    }
+}

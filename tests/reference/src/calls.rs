@@ -1,0 +1,357 @@
+//! The four calls: open, put, read and take.
+
+use crate::answer::Answer;
+use crate::names::{
+    co_key, key_bit, key_of_stored, may_be_put, partition_bit, stored_key, Field, Pair,
+    MOST_FIELDS, PARTIES,
+};
+use crate::table::{
+    has_bit_63, live_rows, row_fields, row_start, rows_of_writer, Clause, FIELDS, FIELD_COUNT,
+    KEYS, LIMIT, LIVE, PARTITIONS, READ_KEY, READ_PARTITION, ROSTER_WORDS, ROW_WORDS, TAKE_KEY,
+    TAKE_PARTITION, WORDS, WRITER,
+};
+use crate::variant::Variant;
+
+/// Which of an entry's pairs a search looks at.
+#[derive(Clone, Copy, PartialEq, Eq)]
+enum Operation {
+    Read,
+    Take,
+}
+
+/// The reference, right or with a blunder.
+#[derive(Clone, Debug)]
+pub struct Reference {
+    variant: Variant,
+    /// Used only by the blunders about charges; the right charge is counted from the rows.
+    charges: [usize; PARTIES],
+}
+
+impl Reference {
+    pub fn correct() -> Reference {
+        Reference::with(Variant::Correct)
+    }
+
+    pub fn with(variant: Variant) -> Reference {
+        Reference {
+            variant,
+            charges: [0; PARTIES],
+        }
+    }
+
+    /// Empties the space and sets the holdings.
+    pub fn open(&mut self, space: &mut [u64], roster: &[u64]) -> Answer {
+        if space.len() != WORDS {
+            return Answer::Refused(1);
+        }
+        if roster.len() != ROSTER_WORDS || roster[PARTIES..].iter().any(|word| has_bit_63(*word)) {
+            return Answer::Refused(9);
+        }
+        space.fill(0);
+        for party in 0..PARTIES {
+            space[PARTITIONS + party] = roster[party] | partition_bit(0);
+            space[KEYS + party] = roster[PARTIES + party] | key_bit(0);
+        }
+        self.charges = [0; PARTIES];
+        Answer::Done
+    }
+
+    /// Adds the newest entry, charged to the party.
+    pub fn put(
+        &mut self,
+        space: &mut [u64],
+        party: u32,
+        read: Pair,
+        take: Pair,
+        fields: &[u64],
+    ) -> Answer {
+        if let Some(number) = self.put_refusal(space, party, read, take, fields) {
+            return Answer::Refused(number);
+        }
+        let start = row_start(space[LIVE] as usize);
+        let row = &mut space[start..start + ROW_WORDS];
+        row[WRITER] = u64::from(party);
+        row[READ_PARTITION] = u64::from(read.partition);
+        row[READ_KEY] = stored_key(read.key);
+        row[TAKE_PARTITION] = u64::from(take.partition);
+        row[TAKE_KEY] = stored_key(take.key);
+        row[FIELD_COUNT] = fields.len() as u64;
+        row[FIELDS..FIELDS + fields.len()].copy_from_slice(fields);
+        space[LIVE] += 1;
+        self.charges[party as usize] += 1;
+        Answer::Done
+    }
+
+    /// Finds the oldest match for reading.
+    pub fn read(
+        &mut self,
+        space: &mut [u64],
+        party: u32,
+        pair: Pair,
+        fields: &[u64],
+        result: &mut [u64],
+    ) -> Answer {
+        self.find(Operation::Read, space, party, pair, fields, result)
+    }
+
+    /// Finds the oldest match for taking and removes it.
+    pub fn take(
+        &mut self,
+        space: &mut [u64],
+        party: u32,
+        pair: Pair,
+        fields: &[u64],
+        result: &mut [u64],
+    ) -> Answer {
+        self.find(Operation::Take, space, party, pair, fields, result)
+    }
+
+    fn find(
+        &mut self,
+        operation: Operation,
+        space: &mut [u64],
+        party: u32,
+        pair: Pair,
+        fields: &[u64],
+        result: &mut [u64],
+    ) -> Answer {
+        if let Some(number) = self.find_refusal(space, party, pair, fields, result.len()) {
+            return Answer::Refused(number);
+        }
+        let Some(index) = self.matching_row(operation, space, pair, fields) else {
+            return Answer::None;
+        };
+        let start = row_start(index);
+        let writer = space[start + WRITER] as usize;
+        let found = row_fields(&space[start..start + ROW_WORDS]).to_vec();
+        if result.len() < found.len() {
+            // Only the blunder TestsResultLate gets here.
+            return Answer::Refused(6);
+        }
+        result[..found.len()].copy_from_slice(&found);
+        match self.variant {
+            Variant::GivesNamesOfTemplate => self.give_names(space, party as usize, fields),
+            _ => self.give_names(space, party as usize, &found),
+        }
+        if operation == Operation::Take {
+            self.remove_row(space, index);
+            self.lower_charge(writer, party as usize);
+        }
+        Answer::Found(found.len())
+    }
+
+    /// The refusals of a put, in the order of the rules' table.
+    fn put_refusal(
+        &self,
+        space: &[u64],
+        party: u32,
+        read: Pair,
+        take: Pair,
+        fields: &[u64],
+    ) -> Option<u32> {
+        if !self.sound(space) {
+            return Some(1);
+        }
+        if party as usize >= PARTIES {
+            return Some(2);
+        }
+        if fields.is_empty() || fields.len() > MOST_FIELDS {
+            return Some(3);
+        }
+        if !read.in_range() || !take.in_range() {
+            return Some(4);
+        }
+        if !fields.iter().all(|word| may_be_put(*word)) {
+            return Some(5);
+        }
+        let party = party as usize;
+        if !holds_pair(space, party, read)
+            || !holds_pair(space, party, take)
+            || !holds_names_in(space, party, fields)
+        {
+            return Some(7);
+        }
+        if self.charge(space, party) >= self.limit() {
+            return Some(8);
+        }
+        None
+    }
+
+    /// The refusals of a read or a take, in the order of the rules' table.
+    fn find_refusal(
+        &self,
+        space: &[u64],
+        party: u32,
+        pair: Pair,
+        fields: &[u64],
+        result_len: usize,
+    ) -> Option<u32> {
+        if !self.sound(space) {
+            return Some(1);
+        }
+        if party as usize >= PARTIES {
+            return Some(2);
+        }
+        if fields.is_empty() || fields.len() > MOST_FIELDS {
+            return Some(3);
+        }
+        if !pair.in_range() {
+            return Some(4);
+        }
+        if fields.iter().any(|word| Field::from_word(*word).is_none()) {
+            return Some(5);
+        }
+        if result_len < fields.len() && self.variant != Variant::TestsResultLate {
+            return Some(6);
+        }
+        let party = party as usize;
+        if !holds_pair(space, party, pair) || !holds_names_in(space, party, fields) {
+            return Some(7);
+        }
+        None
+    }
+
+    fn sound(&self, space: &[u64]) -> bool {
+        Clause::ALL
+            .into_iter()
+            .filter(|clause| self.variant != Variant::Skips(*clause))
+            .all(|clause| clause.holds(space))
+    }
+
+    /// The row of the oldest match.
+    fn matching_row(
+        &self,
+        operation: Operation,
+        space: &[u64],
+        pair: Pair,
+        fields: &[u64],
+    ) -> Option<usize> {
+        let mut rows = live_rows(space)
+            .enumerate()
+            .filter(|(_, row)| self.matches(operation, row, pair, fields))
+            .map(|(index, _)| index);
+        match self.variant {
+            Variant::NewestFirst => rows.last(),
+            _ => rows.next(),
+        }
+    }
+
+    /// The four conditions of a match.
+    fn matches(&self, operation: Operation, row: &[u64], pair: Pair, template: &[u64]) -> bool {
+        let (partition, key) = match operation {
+            Operation::Take if self.variant != Variant::TakeTestsReadPair => {
+                (row[TAKE_PARTITION], row[TAKE_KEY])
+            }
+            _ => (row[READ_PARTITION], row[READ_KEY]),
+        };
+        row[FIELD_COUNT] == template.len() as u64
+            && fields_agree(row_fields(row), template)
+            && self.partition_agrees(partition, pair.partition, template)
+            && self.key_agrees(key, pair.key)
+    }
+
+    fn partition_agrees(&self, entrys: u64, templates: u32, template: &[u64]) -> bool {
+        let blunder = match self.variant {
+            Variant::DefaultPartitionMatchesAll => templates == 0,
+            Variant::WildcardsMatchPartition => template.iter().all(|word| is_wildcard(*word)),
+            _ => false,
+        };
+        blunder || entrys == u64::from(templates)
+    }
+
+    fn key_agrees(&self, entrys_stored: u64, templates: i32) -> bool {
+        let entrys = key_of_stored(entrys_stored);
+        match self.variant {
+            Variant::ComparesKeyNotCoKey => entrys == Some(templates),
+            _ => entrys.map(co_key) == Some(templates),
+        }
+    }
+
+    /// The party then also holds each partition and key in these fields.
+    fn give_names(&self, space: &mut [u64], party: usize, fields: &[u64]) {
+        for word in fields {
+            match Field::from_word(*word) {
+                Some(Field::Partition(partition)) => {
+                    space[PARTITIONS + party] |= partition_bit(partition);
+                }
+                Some(Field::Key(key)) => {
+                    space[KEYS + party] |= key_bit(key);
+                    if self.variant == Variant::GivesCoKeyToo {
+                        space[KEYS + party] |= key_bit(co_key(key));
+                    }
+                }
+                _ => {}
+            }
+        }
+    }
+
+    /// Later rows move up one place and the freed last row becomes 0.
+    fn remove_row(&self, space: &mut [u64], index: usize) {
+        let live = space[LIVE] as usize;
+        space.copy_within(row_start(index + 1)..row_start(live), row_start(index));
+        if self.variant != Variant::LeavesFreedRow {
+            space[row_start(live - 1)..row_start(live)].fill(0);
+        }
+        space[LIVE] -= 1;
+    }
+
+    fn charge(&self, space: &[u64], party: usize) -> usize {
+        if self.variant.keeps_charges() {
+            self.charges[party]
+        } else {
+            rows_of_writer(space, party)
+        }
+    }
+
+    fn limit(&self) -> usize {
+        match self.variant {
+            Variant::LimitOneTooHigh => LIMIT + 1,
+            _ => LIMIT,
+        }
+    }
+
+    /// Of no effect on the right reference, which counts rows.
+    fn lower_charge(&mut self, writer: usize, taker: usize) {
+        let lowered = match self.variant {
+            Variant::NeverLowersCharge => return,
+            Variant::LowersTakersCharge => taker,
+            _ => writer,
+        };
+        self.charges[lowered] = self.charges[lowered].saturating_sub(1);
+        if self.variant == Variant::ChargesTaker {
+            self.charges[taker] += 1;
+        }
+    }
+}
+
+fn is_wildcard(word: u64) -> bool {
+    Field::from_word(word) == Some(Field::Wildcard)
+}
+
+fn fields_agree(entrys: &[u64], template: &[u64]) -> bool {
+    entrys
+        .iter()
+        .zip(template)
+        .all(|(entrys, templates)| is_wildcard(*templates) || entrys == templates)
+}
+
+fn holds_partition(space: &[u64], party: usize, partition: u32) -> bool {
+    space[PARTITIONS + party] & partition_bit(partition) != 0
+}
+
+fn holds_key(space: &[u64], party: usize, key: i32) -> bool {
+    space[KEYS + party] & key_bit(key) != 0
+}
+
+fn holds_pair(space: &[u64], party: usize, pair: Pair) -> bool {
+    holds_partition(space, party, pair.partition) && holds_key(space, party, pair.key)
+}
+
+/// Whether the party holds each partition and key carried in these fields.
+fn holds_names_in(space: &[u64], party: usize, fields: &[u64]) -> bool {
+    fields.iter().all(|word| match Field::from_word(*word) {
+        Some(Field::Partition(partition)) => holds_partition(space, party, partition),
+        Some(Field::Key(key)) => holds_key(space, party, key),
+        _ => true,
+    })
+}

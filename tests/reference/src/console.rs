@@ -1,0 +1,312 @@
+//! The console's text to text: the whole output as a function of the whole input.
+
+use crate::answer::Answer;
+use crate::calls::Reference;
+use crate::names::{
+    key_bit, key_in_range, partition_bit, Field, Pair, LAST_PARTITION, MOST_FIELDS, PARTIES,
+};
+use crate::table::{ROSTER_WORDS, WORDS};
+
+/// The most bytes that are read.
+pub const LONGEST_INPUT: usize = 65_536;
+/// The first line of every readable input.
+pub const INPUT_NAMES: &str = "call party rpart rkey tpart tkey fields";
+/// The first line of the output to it.
+pub const OUTPUT_NAMES: &str = "line answer fields";
+/// A list may have more fields than a call accepts, up to this many.
+pub const MOST_FIELDS_IN_LINE: usize = 16;
+
+/// What the console program prints for an input.
+pub fn console(input: &[u8]) -> Vec<u8> {
+    if input.len() > LONGEST_INPUT {
+        return b"input too long\n".to_vec();
+    }
+    let mut session = Session::new();
+    let mut output = String::new();
+    for (index, line) in lines(input).enumerate() {
+        match line.and_then(|line| session.line(index, line)) {
+            Some(printed) => output.push_str(&printed),
+            None => {
+                output.push_str(&format!("line {} unreadable\n", index + 1));
+                break;
+            }
+        }
+    }
+    output.into_bytes()
+}
+
+/// The lines without their line feeds; none stands for a line that doesn't end in one. An empty
+/// input is one such line.
+fn lines(input: &[u8]) -> impl Iterator<Item = Option<&[u8]>> {
+    let mut rest = Some(input);
+    std::iter::from_fn(move || {
+        let text = rest?;
+        match text.iter().position(|byte| *byte == b'\n') {
+            Some(end) => {
+                rest = Some(&text[end + 1..]).filter(|after| !after.is_empty());
+                Some(Some(&text[..end]))
+            }
+            None => {
+                rest = None;
+                Some(None)
+            }
+        }
+    })
+}
+
+/// A line after the first, taken apart.
+#[derive(Clone, Debug, PartialEq, Eq)]
+enum Line {
+    Give {
+        party: usize,
+        partition: Option<u32>,
+        key: Option<i32>,
+    },
+    Put {
+        party: u32,
+        read: Pair,
+        take: Pair,
+        fields: Vec<u64>,
+    },
+    Read {
+        party: u32,
+        pair: Pair,
+        fields: Vec<u64>,
+    },
+    Take {
+        party: u32,
+        pair: Pair,
+        fields: Vec<u64>,
+    },
+}
+
+/// The gives so far, or the space that they opened.
+struct Session {
+    roster: [u64; ROSTER_WORDS],
+    /// Opened by the first call; from then on no give is readable.
+    space: Option<Vec<u64>>,
+    reference: Reference,
+    calls: usize,
+}
+
+impl Session {
+    fn new() -> Session {
+        Session {
+            roster: [0; ROSTER_WORDS],
+            space: None,
+            reference: Reference::correct(),
+            calls: 0,
+        }
+    }
+
+    /// Carries out one line, the first being line 0, and gives what it prints; none if it is
+    /// unreadable.
+    fn line(&mut self, index: usize, text: &[u8]) -> Option<String> {
+        if index == 0 {
+            return (text == INPUT_NAMES.as_bytes()).then(|| format!("{OUTPUT_NAMES}\n"));
+        }
+        let line = parse_line(text)?;
+        if let Line::Give {
+            party,
+            partition,
+            key,
+        } = line
+        {
+            if self.space.is_some() {
+                return None;
+            }
+            self.give(party, partition, key);
+            return Some(String::new());
+        }
+        Some(self.call(&line))
+    }
+
+    fn give(&mut self, party: usize, partition: Option<u32>, key: Option<i32>) {
+        self.roster[party] |= partition.map_or(0, partition_bit);
+        self.roster[PARTIES + party] |= key.map_or(0, key_bit);
+    }
+
+    fn call(&mut self, line: &Line) -> String {
+        let mut result = [0; MOST_FIELDS];
+        let answer = self.answer(line, &mut result);
+        self.calls += 1;
+        let (word, fields) = match answer {
+            Answer::Done => ("done".to_string(), "-".to_string()),
+            Answer::None => ("none".to_string(), "-".to_string()),
+            Answer::Refused(number) => (format!("no{number}"), "-".to_string()),
+            Answer::Found(count) => ("found".to_string(), render_fields(&result[..count])),
+        };
+        format!("{} {} {}\n", self.calls, word, fields)
+    }
+
+    fn answer(&mut self, line: &Line, result: &mut [u64]) -> Answer {
+        let reference = &mut self.reference;
+        let space = self.space.get_or_insert_with(|| {
+            let mut space = vec![0; WORDS];
+            let opened = reference.open(&mut space, &self.roster);
+            assert_eq!(opened, Answer::Done, "gives make a good roster");
+            space
+        });
+        match line {
+            Line::Give { .. } => unreachable!("a give is no call"),
+            Line::Put {
+                party,
+                read,
+                take,
+                fields,
+            } => reference.put(space, *party, *read, *take, fields),
+            Line::Read {
+                party,
+                pair,
+                fields,
+            } => reference.read(space, *party, *pair, fields, result),
+            Line::Take {
+                party,
+                pair,
+                fields,
+            } => reference.take(space, *party, *pair, fields, result),
+        }
+    }
+}
+
+/// Reads a line of seven items with one space between.
+fn parse_line(text: &[u8]) -> Option<Line> {
+    let items: Vec<&[u8]> = text.split(|byte| *byte == b' ').collect();
+    let [call, party, rpart, rkey, tpart, tkey, fields] = items[..] else {
+        return None;
+    };
+    match call {
+        b"give" => {
+            all_absent(&[tpart, tkey, fields])?;
+            parse_give(party, rpart, rkey)
+        }
+        b"put" => Some(Line::Put {
+            party: parse_number(party)?,
+            read: parse_pair(rpart, rkey)?,
+            take: parse_pair(tpart, tkey)?,
+            fields: parse_fields(fields)?,
+        }),
+        b"read" | b"take" => {
+            all_absent(&[tpart, tkey])?;
+            let party = parse_number(party)?;
+            let pair = parse_pair(rpart, rkey)?;
+            let fields = parse_fields(fields)?;
+            Some(if call == b"read" {
+                Line::Read {
+                    party,
+                    pair,
+                    fields,
+                }
+            } else {
+                Line::Take {
+                    party,
+                    pair,
+                    fields,
+                }
+            })
+        }
+        _ => None,
+    }
+}
+
+fn is_absent(item: &[u8]) -> bool {
+    item == b"-"
+}
+
+fn all_absent(items: &[&[u8]]) -> Option<()> {
+    items.iter().all(|item| is_absent(item)).then_some(())
+}
+
+/// Unlike in a call, everything in a give must be in its range.
+fn parse_give(party: &[u8], partition: &[u8], key: &[u8]) -> Option<Line> {
+    let party = parse_number(party)? as usize;
+    let partition = match is_absent(partition) {
+        true => None,
+        false => Some(parse_number(partition)?),
+    };
+    let key = match is_absent(key) {
+        true => None,
+        false => Some(parse_key(key)?),
+    };
+    let in_range = party < PARTIES
+        && partition.is_none_or(|partition| partition <= LAST_PARTITION)
+        && key.is_none_or(key_in_range);
+    in_range.then_some(Line::Give {
+        party,
+        partition,
+        key,
+    })
+}
+
+fn parse_pair(partition: &[u8], key: &[u8]) -> Option<Pair> {
+    Some(Pair {
+        partition: parse_number(partition)?,
+        key: parse_key(key)?,
+    })
+}
+
+/// Reads decimal digits without a leading zero, as a number of at most ten digits.
+fn parse_digits(text: &[u8]) -> Option<i64> {
+    let all_digits = !text.is_empty() && text.iter().all(u8::is_ascii_digit);
+    let leading_zero = text.len() > 1 && text[0] == b'0';
+    if !all_digits || leading_zero || text.len() > 10 {
+        return None;
+    }
+    Some(
+        text.iter()
+            .fold(0, |number, digit| number * 10 + i64::from(digit - b'0')),
+    )
+}
+
+/// Reads a number of 32 bits without a sign.
+fn parse_number(text: &[u8]) -> Option<u32> {
+    u32::try_from(parse_digits(text)?).ok()
+}
+
+/// Reads a number of 32 bits with a minus before it if it is below 0.
+fn parse_key(text: &[u8]) -> Option<i32> {
+    let key = match text.strip_prefix(b"-") {
+        Some(digits) => match parse_digits(digits)? {
+            0 => return None,
+            number => -number,
+        },
+        None => parse_digits(text)?,
+    };
+    i32::try_from(key).ok()
+}
+
+/// Reads a list of fields into their words.
+fn parse_fields(text: &[u8]) -> Option<Vec<u64>> {
+    if is_absent(text) {
+        return Some(Vec::new());
+    }
+    let words: Option<Vec<u64>> = text.split(|byte| *byte == b',').map(parse_field).collect();
+    words.filter(|words| words.len() <= MOST_FIELDS_IN_LINE)
+}
+
+/// Reads a field into its word. A partition above 63 is readable and makes a bad word.
+fn parse_field(text: &[u8]) -> Option<u64> {
+    let (letter, number) = text.split_first()?;
+    let field = match letter {
+        b'm' => Field::Message(parse_number(number)?),
+        b'p' => Field::Partition(parse_number(number)?),
+        b'k' => Field::Key(parse_key(number).filter(|key| key_in_range(*key))?),
+        b'*' if number.is_empty() => Field::Wildcard,
+        _ => return None,
+    };
+    Some(field.word())
+}
+
+fn render_fields(words: &[u64]) -> String {
+    let fields: Vec<String> = words.iter().map(|word| render_field(*word)).collect();
+    fields.join(",")
+}
+
+fn render_field(word: u64) -> String {
+    match Field::from_word(word) {
+        Some(Field::Message(message)) => format!("m{message}"),
+        Some(Field::Partition(partition)) => format!("p{partition}"),
+        Some(Field::Key(key)) => format!("k{key}"),
+        Some(Field::Wildcard) | None => unreachable!("no entry has the field word {word}"),
+    }
+}

@@ -1,0 +1,19 @@
+//! The shared space, written a second time straight from the rules.
+//!
+//! It is meant to be compared with, so it is simple and slow on purpose: every call tests the
+//! whole table clause by clause and counts rows anew. `Variant` selects a known blunder, with
+//! which the comparison itself is tested; `Reference::correct` has none.
+
+pub mod answer;
+pub mod calls;
+pub mod console;
+pub mod names;
+pub mod table;
+pub mod variant;
+
+pub use answer::Answer;
+pub use calls::Reference;
+pub use console::console;
+pub use names::{co_key, Field, Pair};
+pub use table::Clause;
+pub use variant::Variant;

@@ -1,0 +1,96 @@
+//! Parties, partitions, keys, and the words that carry them as fields.
+
+/// Parties are 0 to 7.
+pub const PARTIES: usize = 8;
+/// Partitions are 0 to 63; 0 is the default.
+pub const LAST_PARTITION: u32 = 63;
+/// Keys are -31 to 31; 0 is the default.
+pub const LAST_KEY: i32 = 31;
+/// Stored keys are 0 to 62.
+pub const LAST_STORED_KEY: u64 = 62;
+/// An entry or a template has at most 8 fields.
+pub const MOST_FIELDS: usize = 8;
+
+/// A kind is worth this much in a field word.
+const KIND: u64 = 4_294_967_296;
+
+/// A partition with a key, as a call names them: not yet known to be in range.
+#[derive(Clone, Copy, Debug, PartialEq, Eq)]
+pub struct Pair {
+    pub partition: u32,
+    pub key: i32,
+}
+
+impl Pair {
+    pub fn in_range(self) -> bool {
+        self.partition <= LAST_PARTITION && key_in_range(self.key)
+    }
+}
+
+pub fn key_in_range(key: i32) -> bool {
+    (-LAST_KEY..=LAST_KEY).contains(&key)
+}
+
+/// The co-key of a key in range.
+pub fn co_key(key: i32) -> i32 {
+    -key
+}
+
+/// A key in range as it is stored, 0 to 62.
+pub fn stored_key(key: i32) -> u64 {
+    (key + LAST_KEY) as u64
+}
+
+/// The key that is stored so, if there is one.
+pub fn key_of_stored(stored: u64) -> Option<i32> {
+    (stored <= LAST_STORED_KEY).then(|| stored as i32 - LAST_KEY)
+}
+
+/// The bit of a holdings word that stands for a partition in range.
+pub fn partition_bit(partition: u32) -> u64 {
+    1 << partition
+}
+
+/// The bit of a holdings word that stands for a key in range.
+pub fn key_bit(key: i32) -> u64 {
+    1 << stored_key(key)
+}
+
+/// A field word taken apart.
+#[derive(Clone, Copy, Debug, PartialEq, Eq)]
+pub enum Field {
+    Message(u32),
+    Partition(u32),
+    Key(i32),
+    Wildcard,
+}
+
+impl Field {
+    /// The field that a word stands for; a bad word stands for none.
+    pub fn from_word(word: u64) -> Option<Field> {
+        let kind = word / KIND;
+        let value = word % KIND;
+        match kind {
+            0 => Some(Field::Message(value as u32)),
+            1 if value <= u64::from(LAST_PARTITION) => Some(Field::Partition(value as u32)),
+            2 => key_of_stored(value).map(Field::Key),
+            3 if value == 0 => Some(Field::Wildcard),
+            _ => None,
+        }
+    }
+
+    /// The word of a field. The console may ask for a partition out of range, and gets a bad word.
+    pub fn word(self) -> u64 {
+        match self {
+            Field::Message(message) => u64::from(message),
+            Field::Partition(partition) => KIND + u64::from(partition),
+            Field::Key(key) => 2 * KIND + stored_key(key),
+            Field::Wildcard => 3 * KIND,
+        }
+    }
+}
+
+/// Whether a put may carry this word: neither bad nor the wildcard.
+pub fn may_be_put(word: u64) -> bool {
+    !matches!(Field::from_word(word), None | Some(Field::Wildcard))
+}

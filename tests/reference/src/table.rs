@@ -1,0 +1,153 @@
+//! The 1,809 words of a space: what stands where, and when they are sound.
+
+use crate::names::{
+    key_bit, may_be_put, partition_bit, LAST_PARTITION, LAST_STORED_KEY, MOST_FIELDS, PARTIES,
+};
+
+/// The length of a space.
+pub const WORDS: usize = 1_809;
+/// The word with the number of live entries.
+pub const LIVE: usize = 0;
+/// The first of the words with the partitions held, one for each party.
+pub const PARTITIONS: usize = 1;
+/// The first of the words with the keys held, one for each party.
+pub const KEYS: usize = 9;
+/// The length of a roster, laid out as words 1 to 16 of a space.
+pub const ROSTER_WORDS: usize = 16;
+/// The first word of the oldest row.
+pub const FIRST_ROW: usize = 17;
+/// The number of rows, live or not.
+pub const ROWS: usize = 128;
+/// The length of a row.
+pub const ROW_WORDS: usize = 14;
+/// No writer has more live rows than this.
+pub const LIMIT: usize = 16;
+
+// Where things stand in a row.
+pub const WRITER: usize = 0;
+pub const READ_PARTITION: usize = 1;
+pub const READ_KEY: usize = 2;
+pub const TAKE_PARTITION: usize = 3;
+pub const TAKE_KEY: usize = 4;
+pub const FIELD_COUNT: usize = 5;
+pub const FIELDS: usize = 6;
+
+const BIT_63: u64 = 1 << 63;
+
+/// The place of a row's first word.
+pub fn row_start(index: usize) -> usize {
+    FIRST_ROW + index * ROW_WORDS
+}
+
+/// The live rows, oldest first.
+pub fn live_rows(space: &[u64]) -> impl Iterator<Item = &[u64]> {
+    space[FIRST_ROW..WORDS]
+        .chunks_exact(ROW_WORDS)
+        .take(space[LIVE] as usize)
+}
+
+/// A row's field words in use.
+pub fn row_fields(row: &[u64]) -> &[u64] {
+    let count = (row[FIELD_COUNT] as usize).min(MOST_FIELDS);
+    &row[FIELDS..FIELDS + count]
+}
+
+/// How many live rows name this party as writer.
+pub fn rows_of_writer(space: &[u64], party: usize) -> usize {
+    live_rows(space)
+        .filter(|row| row[WRITER] == party as u64)
+        .count()
+}
+
+/// Whether a key word has the bit that no key stands for.
+pub fn has_bit_63(word: u64) -> bool {
+    word & BIT_63 != 0
+}
+
+/// The clauses of "sound", in an order in which each may rely on those before it.
+#[derive(Clone, Copy, Debug, PartialEq, Eq)]
+pub enum Clause {
+    Length,
+    LiveCount,
+    DefaultPartition,
+    DefaultKey,
+    KeyBit63,
+    Writer,
+    ReadPartition,
+    ReadKey,
+    TakePartition,
+    TakeKey,
+    FieldCount,
+    FieldWords,
+    UnusedFieldWords,
+    LimitOfWriter,
+    RowsPastLive,
+}
+
+impl Clause {
+    pub const ALL: [Clause; 15] = [
+        Clause::Length,
+        Clause::LiveCount,
+        Clause::DefaultPartition,
+        Clause::DefaultKey,
+        Clause::KeyBit63,
+        Clause::Writer,
+        Clause::ReadPartition,
+        Clause::ReadKey,
+        Clause::TakePartition,
+        Clause::TakeKey,
+        Clause::FieldCount,
+        Clause::FieldWords,
+        Clause::UnusedFieldWords,
+        Clause::LimitOfWriter,
+        Clause::RowsPastLive,
+    ];
+
+    /// Whether the clause holds of a space of which the clauses before it hold.
+    pub fn holds(self, space: &[u64]) -> bool {
+        match self {
+            Clause::Length => space.len() == WORDS,
+            Clause::LiveCount => space[LIVE] <= ROWS as u64,
+            Clause::DefaultPartition => space[PARTITIONS..PARTITIONS + PARTIES]
+                .iter()
+                .all(|held| held & partition_bit(0) != 0),
+            Clause::DefaultKey => key_words(space).iter().all(|held| held & key_bit(0) != 0),
+            Clause::KeyBit63 => key_words(space).iter().all(|held| !has_bit_63(*held)),
+            Clause::Writer => live_rows(space).all(|row| row[WRITER] < PARTIES as u64),
+            Clause::ReadPartition => {
+                live_rows(space).all(|row| row[READ_PARTITION] <= u64::from(LAST_PARTITION))
+            }
+            Clause::ReadKey => live_rows(space).all(|row| row[READ_KEY] <= LAST_STORED_KEY),
+            Clause::TakePartition => {
+                live_rows(space).all(|row| row[TAKE_PARTITION] <= u64::from(LAST_PARTITION))
+            }
+            Clause::TakeKey => live_rows(space).all(|row| row[TAKE_KEY] <= LAST_STORED_KEY),
+            Clause::FieldCount => {
+                live_rows(space).all(|row| (1..=MOST_FIELDS as u64).contains(&row[FIELD_COUNT]))
+            }
+            Clause::FieldWords => {
+                live_rows(space).all(|row| row_fields(row).iter().all(|word| may_be_put(*word)))
+            }
+            Clause::UnusedFieldWords => live_rows(space).all(|row| {
+                let used = row_fields(row).len();
+                row[FIELDS + used..].iter().all(|word| *word == 0)
+            }),
+            Clause::LimitOfWriter => {
+                (0..PARTIES).all(|party| rows_of_writer(space, party) <= LIMIT)
+            }
+            Clause::RowsPastLive => space[FIRST_ROW..]
+                .chunks_exact(ROW_WORDS)
+                .skip(space[LIVE] as usize)
+                .all(|row| row.iter().all(|word| *word == 0)),
+        }
+    }
+}
+
+fn key_words(space: &[u64]) -> &[u64] {
+    &space[KEYS..KEYS + PARTIES]
+}
+
+/// The first clause that doesn't hold; none if the space is sound.
+pub fn broken_clause(space: &[u64]) -> Option<Clause> {
+    Clause::ALL.into_iter().find(|clause| !clause.holds(space))
+}

@@ -1,0 +1,208 @@
+//! The console's text to text on the rules' example and on each reading of its text.
+
+use reference::console;
+
+const NAMES: &str = "call party rpart rkey tpart tkey fields\n";
+
+fn whole(input: &str) -> String {
+    String::from_utf8(console(input.as_bytes())).expect("the console prints plain text")
+}
+
+/// The output to a names line and these lines, without the names line of the output.
+fn after_names(lines: &str) -> String {
+    let output = whole(&format!("{NAMES}{lines}"));
+    output
+        .strip_prefix("line answer fields\n")
+        .expect("a names line comes first")
+        .to_string()
+}
+
+#[test]
+fn example_of_the_rules() {
+    let input = "\
+call party rpart rkey tpart tkey fields
+give 0 5 4 - - -
+give 1 5 -4 - - -
+put 0 5 4 5 4 m7,m120
+read 1 5 -4 - - m7,*
+take 0 5 -4 - - *,*
+take 1 5 -4 - - *,*
+read 1 5 -4 - - *,*
+";
+    let output = "\
+line answer fields
+1 done -
+2 found m7,m120
+3 no7 -
+4 found m7,m120
+5 none -
+";
+    assert_eq!(whole(input), output);
+}
+
+#[test]
+fn inputs_without_calls() {
+    assert_eq!(whole(""), "line 1 unreadable\n");
+    assert_eq!(whole("\n"), "line 1 unreadable\n");
+    assert_eq!(whole(NAMES), "line answer fields\n");
+    assert_eq!(whole(NAMES.trim_end()), "line 1 unreadable\n");
+    assert_eq!(whole(&format!(" {NAMES}")), "line 1 unreadable\n");
+    assert_eq!(after_names("give 0 5 4 - - -\n"), "");
+    assert_eq!(after_names("give 0 - - - - -\ngive 0 - - - - -\n"), "");
+    assert_eq!(after_names("\n"), "line 2 unreadable\n");
+}
+
+#[test]
+fn length_of_the_input() {
+    let line = "put 0 0 0 0 0 m1\n";
+    let mut input = NAMES.to_string();
+    while input.len() + 2 * line.len() <= 65_536 {
+        input.push_str(line);
+    }
+    let missing = 65_536 - input.len() - "put 0 0 0 0 0 \n".len();
+    let full = format!("{input}put 0 0 0 0 0 {}\n", fields_of_length(missing));
+    assert_eq!(full.len(), 65_536);
+    assert!(whole(&full).ends_with(" no8 -\n"));
+    assert_eq!(whole(&format!("{full}\n")), "input too long\n");
+    let cut = &full[..65_535];
+    assert!(whole(cut).ends_with(" unreadable\n"));
+}
+
+/// A list of messages that is this many bytes long.
+fn fields_of_length(length: usize) -> String {
+    let mut fields = "m1".to_string();
+    while fields.len() + 3 <= length {
+        fields.push_str(",m1");
+    }
+    while fields.len() < length {
+        fields.push('1');
+    }
+    fields
+}
+
+#[test]
+fn readable_and_refused() {
+    for (line, answer) in [
+        ("put 0 0 0 0 0 p63", "no7"),
+        ("put 0 0 0 0 0 p64", "no5"),
+        ("put 0 0 0 0 0 p4294967295", "no5"),
+        ("put 0 0 0 0 0 *", "no5"),
+        ("put 0 0 0 0 0 -", "no3"),
+        ("put 0 0 0 0 0 m0,m0,m0,m0,m0,m0,m0,m0,m0", "no3"),
+        (
+            "put 0 0 0 0 0 m0,m0,m0,m0,m0,m0,m0,m0,m0,m0,m0,m0,m0,m0,m0,m0",
+            "no3",
+        ),
+        ("put 8 0 0 0 0 -", "no2"),
+        ("put 4294967295 0 0 0 0 m0", "no2"),
+        ("put 0 64 0 0 0 m0", "no4"),
+        ("put 0 0 0 4294967295 0 m0", "no4"),
+        ("put 0 0 -2147483648 0 0 m0", "no4"),
+        ("put 0 0 0 0 2147483647 m0", "no4"),
+        ("put 0 0 -31 0 0 m0", "no7"),
+        ("read 0 0 0 - - *", "none"),
+        ("read 0 0 32 - - *", "no4"),
+        ("take 0 0 0 - - p0,k0,m4294967295", "none"),
+        ("take 0 0 0 - - k-31", "no7"),
+    ] {
+        assert_eq!(
+            after_names(&format!("{line}\n")),
+            format!("1 {answer} -\n"),
+            "{line}"
+        );
+    }
+}
+
+#[test]
+fn unreadable_lines() {
+    for line in [
+        "put 0 0 0 0 0 m0 ",
+        " put 0 0 0 0 0 m0",
+        "put  0 0 0 0 0 m0",
+        "put\t0 0 0 0 0 m0",
+        "put 0 0 0 0 0 m0\r",
+        "put 0 0 0 0 0",
+        "put 0 0 0 0 0 m0 m0",
+        "Put 0 0 0 0 0 m0",
+        "open 0 0 0 0 0 m0",
+        "put 0 0 0 - - m0",
+        "put - 0 0 0 0 m0",
+        "put 0 - 0 0 0 m0",
+        "put 0 0 - 0 0 m0",
+        "put 00 0 0 0 0 m0",
+        "put -0 0 0 0 0 m0",
+        "put +1 0 0 0 0 m0",
+        "put -1 0 0 0 0 m0",
+        "put 0 -1 0 0 0 m0",
+        "put 0 0 -0 0 0 m0",
+        "put 0 0 +1 0 0 m0",
+        "put 0 0 01 0 0 m0",
+        "put 0 0 -01 0 0 m0",
+        "put 0 0 2147483648 0 0 m0",
+        "put 0 0 -2147483649 0 0 m0",
+        "put 4294967296 0 0 0 0 m0",
+        "put 18446744073709551616 0 0 0 0 m0",
+        "put 0 0 0 0 0 m4294967296",
+        "put 0 0 0 0 0 p4294967296",
+        "put 0 0 0 0 0 m-1",
+        "put 0 0 0 0 0 m",
+        "put 0 0 0 0 0 m00",
+        "put 0 0 0 0 0 k32",
+        "put 0 0 0 0 0 k-32",
+        "put 0 0 0 0 0 k-0",
+        "put 0 0 0 0 0 k",
+        "put 0 0 0 0 0 *0",
+        "put 0 0 0 0 0 **",
+        "put 0 0 0 0 0 m0,",
+        "put 0 0 0 0 0 ,m0",
+        "put 0 0 0 0 0 m0,-",
+        "put 0 0 0 0 0 m0,,m0",
+        "put 0 0 0 0 0 x1",
+        "put 0 0 0 0 0 m0,m0,m0,m0,m0,m0,m0,m0,m0,m0,m0,m0,m0,m0,m0,m0,m0",
+        "read 0 0 0 0 0 *",
+        "read 0 0 0 - 0 *",
+        "take 0 0 0 0 - *",
+        "give 8 0 0 - - -",
+        "give 0 64 0 - - -",
+        "give 0 0 32 - - -",
+        "give 0 0 -32 - - -",
+        "give - 0 0 - - -",
+        "give 0 0 0 0 - -",
+        "give 0 0 0 - - m0",
+        "give 0 0 0 - -",
+    ] {
+        assert_eq!(
+            after_names(&format!("{line}\n")),
+            "line 2 unreadable\n",
+            "{line}"
+        );
+    }
+}
+
+#[test]
+fn calls_before_an_unreadable_line_are_printed() {
+    let lines = "give 0 5 - - - -\nput 0 5 0 5 0 m1\ngive 0 6 - - - -\nput 0 5 0 5 0 m1\n";
+    assert_eq!(after_names(lines), "1 done -\nline 4 unreadable\n");
+    let lines = "put 0 0 0 0 0 m1\nread 0 0 0 - - m1";
+    assert_eq!(after_names(lines), "1 done -\nline 3 unreadable\n");
+}
+
+#[test]
+fn names_travel_and_are_printed_as_keys() {
+    let lines = "\
+give 0 5 4 - - -
+put 0 0 0 0 0 p5,k4
+put 2 5 4 5 4 m1
+read 2 0 0 - - *,*
+put 2 5 4 5 4 m1
+put 2 5 -4 5 4 m1
+";
+    let output = "\
+1 done -
+2 no7 -
+3 found p5,k4
+4 done -
+5 no7 -
+";
+    assert_eq!(after_names(lines), output);
+}
