@@ -1,6 +1,6 @@
 -- What a read or take comes to: refused, none, or the oldest match with its fields.
 use Prim.Native.Nat.{ℕ, zero, suc, _+_, _-_, _*_, _≤_, _<_}
-use mathlib.Core.Path.{_≡_, refl, sym, ap, _∙_}
+use mathlib.Core.Path.{_≡_, refl, sym, ap, ap₂, _∙_}
 use mathlib.Core.Logic.{_⊎_, inl, inr}
 use mathlib.Core.Bool.{true, not}
 use mathlib.Core.Option.{Option, none, some}
@@ -15,16 +15,18 @@ use lib.IntN.{ℤ}
 use lib.ListN.{length, getD, take, drop, length-take, length-drop}
 use lib.Seq.{drop-drop, take-at}
 use Rattle.rules.specs.Lists.{first}
+use Rattle.rules.specs.Names.{Name, partition, key}
 use Rattle.rules.specs.Fields.{namesIn}
-use Rattle.rules.specs.Matching.{Pair, storedPair, Entry, Op, taking, matches}
-use Rattle.rules.specs.State.{State, giveAll, withEntries}
-use Rattle.rules.specs.Calls.{seek, found, nothing, refused, Table, firstThatApplies, seekTable, remaining}
-use Rattle.rules.specs.Words.{encode, entryAt, decode, sound, exit, call, refusals}
+use Rattle.rules.specs.Matching.{Pair, pair, storedPair, Entry, Op, reading, taking, matches}
+use Rattle.rules.specs.State.{State, give, giveAll, withEntries}
+use Rattle.rules.specs.Calls.{seek, Answer, found, nothing, Table, firstThatApplies, seekTable, remaining}
+use Rattle.rules.specs.Words.{encode, entryAt, decode, sound, Exit, exit, call, refusals}
 use Rattle.rules.specs.Claims.{Passes}
 use Rattle.rules.proofs.ListLaws.{and-left}
 use Rattle.rules.proofs.Rows.{WF, sound-encode}
-use Rattle.rules.proofs.Kept.{wf-remaining, few-rows}
-use Rattle.rules.proofs.Back.{wf-decode, encode-decode, decode-len}
+use Rattle.rules.proofs.Gifts.{giveAll-entries}
+use Rattle.rules.proofs.Kept.{namesIn-ok, wf-giveAll, few-rows}
+use Rattle.rules.proofs.Back.{sound-facts, wf-decode, encode-decode, decode-len}
 use Rattle.rules.proofs.Edits.{entry-at}
 use Rattle.rules.proofs.WordRuns.{back}
 use Rattle.rules.proofs.Decided.{call-by, passes-call, passes-sound}
@@ -32,7 +34,7 @@ use Rattle.search.specs.Place.{place}
 use Rattle.search.specs.declared.Found as search
 use Rattle.search.specs.declared.Found.the-variants as search-found
 use Rattle.search.proofs.Places.{PlaceFound, place-found, place-none}
-use Rattle.space.specs.Answers.{unfound, atPlace, soughtBy, soughtIn}
+use Rattle.space.specs.Answers.{answered, atPlace, soughtBy, soughtIn, fieldsAt, delivered}
 use Rattle.space.specs.declared.Sought.{Sought}
 use Rattle.space.proofs.Sought.{the-type}
 use Rattle.space.specs.declared.Sought.the-variants.{At, Nothing, Refused}
@@ -56,25 +58,43 @@ module _ (ws : List ℕ) (op : Op) (who : ℕ) (p : Pair ℤ) (t : List ℕ) (ro
   unfolding soughtIn
   sought-placed e f q = rw e (ap atPlace q)
 
+-- a key that was passed on is the key
+pub sought-key : (s : Sought) (ws : List ℕ) (op : Op) (who c : ℕ) (k k′ : ℤ) (t : List ℕ) (room : ℕ) → k ≡ k′
+    → s ≡ soughtIn ws op who (pair c k) t room → s ≡ soughtIn ws op who (pair c k′) t room
+sought-key s ws op who c k k′ t room q e = e ∙ ap (λ (j : ℤ). soughtIn ws op who (pair c j) t room) q
+
 -- the fields that were copied to the result
 pub copied : (ws result last : List ℕ) (at k : ℕ) → at + k ≤ length ws
     → last ≡ take (at + k - at) (drop at ws) ++ drop (length (take (at + k - at) (drop at ws))) result → last ≡ take k (drop at ws) ++ drop k result
 copied ws result last at k l h =
     let n : length (take k (drop at ws)) ≡ k = simp (length-take, length-drop) (omega arith) in h ∙ rw (add-sub-cancel-left, n)
 
-pub copied-front : (ws result last : List ℕ) (at k : ℕ) → at + k ≤ length ws → last ≡ take k (drop at ws) ++ drop k result → take k last ≡ take k (drop at ws)
-copied-front ws result last at k l h = rw h (take-at (take k (drop at ws)) (drop k result) k (simp (length-take, length-drop) (omega arith)))
+-- the fields in the result, and the names held
+pub delivered-at : (ws result left last : List ℕ) (who r n : ℕ) → length ws ≡ 1809 → r < 128 → n ≤ 8 → last ≡ fieldsAt r n ws ++ drop n result
+    → left ≡ encode (giveAll who (namesIn (take n last)) (decode ws)) → _≡_ {A = List ℕ × List ℕ} (left, last) (delivered (At r) who n ws result)
+delivered-at ws result left last who r n l low few h g =
+    let front : take n last ≡ fieldsAt r n ws = rw h (take-at (fieldsAt r n ws) (drop n result) n (simp (length-take, length-drop) (omega arith))) in
+    ap₂ (λ (s u : List ℕ). (s, u)) (g ∙ ap (λ (fs : List ℕ). encode (giveAll who (namesIn fs) (decode ws))) front) h
 
 module _ (ws : List ℕ) (op : Op) (who : ℕ) (p : Pair ℤ) (t result : List ℕ) where
-  pub record Hit (r : ℕ) : Type 0 where
+  record Hit (r : ℕ) : Type 0 where
     pub passes : Passes ws (seek op who p t result)
     pub place : PlaceFound (matches op (storedPair p) t) (decode ws .entries) r
 
+  -- the answer and the words by what was sought, before an entry is removed
+  abbrev ended : Sought → Exit
+  ended s = let d = delivered s who (length t) ws result in exit (answered s (length t)) (d .0) (d .1)
+
+  -- an answer and words that are those
+  pub ending : (s : Sought) (x : Answer) (d : List ℕ × List ℕ) → x ≡ answered s (length t) → d ≡ delivered s who (length t) ws result
+      → exit x (d .0) (d .1) ≡ ended s
+  ending s x d = ap₂ (λ (x : Answer) (d : List ℕ × List ℕ). exit x (d .0) (d .1))
+
   -- by what was sought: the whole call where no entry was found, or what is known of the one found
-  abbrev pub Came : Sought → Type 0
+  abbrev Came : Sought → Type 0
   Came (At r) = Hit r
-  Came Nothing = call ws (seek op who p t result) ≡ exit nothing ws result
-  Came (Refused n) = call ws (seek op who p t result) ≡ exit (refused n) ws result
+  Came Nothing = ended Nothing ≡ call ws (seek op who p t result)
+  Came (Refused n) = ended (Refused n) ≡ call ws (seek op who p t result)
 
   none-came : Passes ws (seek op who p t result) → first (matches op (storedPair p) t) (decode ws .entries) ≡ none
       → call ws (seek op who p t result) ≡ exit nothing ws result
@@ -84,28 +104,28 @@ module _ (ws : List ℕ) (op : Op) (who : ℕ) (p : Pair ℤ) (t result : List �
 
   came-by : (o : Option ℕ) → firstThatApplies (refusals ws (seek op who p t result)) ≡ o
       → (f : search.Found) → place (matches op (storedPair p) t) (decode ws .entries) ≡ f → Came (soughtBy o f)
-  came-by (some n) e f q = call-by ws (seek op who p t result) ∙ rw e refl
+  came-by (some n) e f q = sym (call-by ws (seek op who p t result) ∙ rw e refl)
   came-by none e (search-found.At r) q = record { passes = e; place = place-found (matches op (storedPair p) t) (decode ws .entries) r q }
-  came-by none e search-found.Nothing q = none-came e (place-none (matches op (storedPair p) t) (decode ws .entries) q)
+  came-by none e search-found.Nothing q = sym (none-came e (place-none (matches op (storedPair p) t) (decode ws .entries) q))
 
-  pub came : (s : Sought) → s ≡ soughtIn ws op who p t (length result) → Came s
+  came : (s : Sought) → s ≡ soughtIn ws op who p t (length result) → Came s
   unfolding soughtIn
   came s e = rw e (came-by (firstThatApplies (refusals ws (seek op who p t result))) refl (place (matches op (storedPair p) t) (decode ws .entries)) refl)
 
   -- no entry found; the tags are those of the cases besides At
   pub unfound-call : (s : Sought) → s ≡ soughtIn ws op who p t (length result) → OneOf (1 ∷ 2 ∷ []) (tagOf the-type s)
-      → exit (unfound s) ws result ≡ call ws (seek op who p t result)
+      → ended s ≡ call ws (seek op who p t result)
   unfound-call (At r) e k = absurd (not-at k)
     where
       not-at : _⊎_ (_≡_ {A = ℕ} 0 1) (_≡_ {A = ℕ} 0 2) → ⊥
       not-at (inl q) = omega arith
       not-at (inr q) = omega arith
-  unfound-call Nothing e k = sym (came Nothing e)
-  unfound-call (Refused n) e k = sym (came (Refused n) e)
+  unfound-call Nothing e k = came Nothing e
+  unfound-call (Refused n) e k = came (Refused n) e
 
   -- the entry found, in row r
   module _ (r : ℕ) (h : Hit r) where
-    pub below : r < getD ws 0 0
+    below : r < getD ws 0 0
     below = omega (arith, h .place .below, decode-len ws)
 
     entry-is : h .place .entry ≡ entryAt (drop (14 * r) (drop 17 ws))
@@ -116,7 +136,7 @@ module _ (ws : List ℕ) (op : Op) (who : ℕ) (p : Pair ℤ) (t result : List �
     count-is = sym (eqb-true (length t) (length (h .place .entry .fields)) (and-left (eqb (length t) (length (h .place .entry .fields))) _ (h .place .matched)))
 
     -- the fields as the code copies them
-    pub fields-are : take (length t) (drop (23 + 14 * r) ws) ≡ h .place .entry .fields
+    fields-are : fieldsAt r (length t) ws ≡ h .place .entry .fields
     fields-are =
         let row : List ℕ = drop (14 * r) (drop 17 ws) in
         let k : ℕ = getD row 5 0 in
@@ -128,32 +148,62 @@ module _ (ws : List ℕ) (op : Op) (who : ℕ) (p : Pair ℤ) (t result : List �
         rw (← at, n) (take-own k (drop 6 row) ∙ sym e)
 
     -- the whole call
-    pub hit-call :
+    hit-call :
         call ws (seek op who p t result)
         ≡ exit (found (length t))
-        (encode (giveAll who (namesIn (take (length t) (drop (23 + 14 * r) ws)))
+        (encode (giveAll who (namesIn (fieldsAt r (length t) ws))
         (withEntries (remaining op (matches op (storedPair p) t) (decode ws .entries)) (decode ws))))
-        (take (length t) (drop (23 + 14 * r) ws) ++ drop (length t) result)
+        (fieldsAt r (length t) ws ++ drop (length t) result)
     hit-call = passes-call ws (seek op who p t result) (h .passes) ∙ rw (h .place .found, fields-are, ← count-is) refl
 
--- a take: the state once the row is removed, before the party gains its names
-module _ (ws : List ℕ) (who : ℕ) (p : Pair ℤ) (t result : List ℕ) (r : ℕ) (h : Hit ws taking who p t result r) where
-  abbrev pub left : State
-  left = withEntries (take r (decode ws .entries) ++ drop (suc r) (decode ws .entries)) (decode ws)
+  -- the row found is one of the 128
+  pub found-low : (r : ℕ) → At r ≡ soughtIn ws op who p t (length result) → r < 128
+  found-low r e = let h = came (At r) e in omega (arith, below r h, sound-facts ws (passes-sound ws (seek op who p t result) (h .passes)) .count)
 
-  left-wf : WF left
-  left-wf =
-      rw (← (h .place .removed))
-      (wf-remaining taking (matches taking (storedPair p) t) (decode ws) (wf-decode ws (passes-sound ws (seek taking who p t result) (h .passes))))
+-- a read ends with the search
+pub read-call : (ws : List ℕ) (who : ℕ) (p : Pair ℤ) (t result : List ℕ) (s : Sought) → s ≡ soughtIn ws reading who p t (length result)
+    → ended ws reading who p t result s ≡ call ws (seek reading who p t result)
+read-call ws who p t result (At r) e = sym (hit-call ws reading who p t result r (came ws reading who p t result (At r) e))
+read-call ws who p t result Nothing e = came ws reading who p t result Nothing e
+read-call ws who p t result (Refused n) e = came ws reading who p t result (Refused n) e
 
-  pub left-sound : sound (encode left) ≡ true
-  left-sound = sound-encode left left-wf (few-rows left left-wf)
+-- the entries changed after a gift of names, or before it
+give-with : (who : ℕ) (n : Name) (es : List Entry) (s : State) → withEntries es (give who n s) ≡ give who n (withEntries es s)
+unfolding give
+give-with who (partition c) es s = refl
+give-with who (key k) es s = refl
 
-  pub left-back : decode (encode left) ≡ left
-  left-back = back left left-wf
+giveAll-with : (who : ℕ) (ns : List Name) (es : List Entry) (s : State) → withEntries es (giveAll who ns s) ≡ giveAll who ns (withEntries es s)
+giveAll-with who [] es s = refl
+giveAll-with who (n ∷ ns) es s = giveAll-with who ns es (give who n s) ∙ ap (giveAll who ns) (give-with who n es s)
 
-  pub take-call :
-      call ws (seek taking who p t result)
-      ≡ exit (found (length t)) (encode (giveAll who (namesIn (take (length t) (drop (23 + 14 * r) ws))) left))
-      (take (length t) (drop (23 + 14 * r) ws) ++ drop (length t) result)
-  take-call = hit-call ws taking who p t result r h ∙ rw (h .place .removed) refl
+-- a take: the row found is removed from the words that the search left
+module _ (ws : List ℕ) (who : ℕ) (p : Pair ℤ) (t result : List ℕ) where
+  pub record Removable (r : ℕ) (left last : List ℕ) : Type 0 where
+    pub isSound : sound left ≡ true
+    pub below : r < getD left 0 0
+    pub removed :
+        exit (found (length t)) (encode (withEntries (take r (decode left .entries) ++ drop (suc r) (decode left .entries)) (decode left))) last
+        ≡ call ws (seek taking who p t result)
+
+  pub removable : (s : Sought) (r : ℕ) (d : List ℕ × List ℕ) → s ≡ soughtIn ws taking who p t (length result)
+      → d ≡ delivered s who (length t) ws result → s ≡ At r → Removable r (d .0) (d .1)
+  removable s r d e g q = rw (g, q) (go (came ws taking who p t result (At r) (sym q ∙ e)))
+    where
+      names : List Name
+      names = namesIn (fieldsAt r (length t) ws)
+
+      gifted : State
+      gifted = giveAll who names (decode ws)
+
+      go : Hit ws taking who p t result r → Removable r (encode gifted) (fieldsAt r (length t) ws ++ drop (length t) result)
+      go h =
+          let w : WF gifted = wf-giveAll who names (decode ws) (namesIn-ok (fieldsAt r (length t) ws)) (wf-decode ws (passes-sound ws (seek taking who p t result) (h .passes))) in
+          let same : decode (encode gifted) ≡ gifted = back gifted w in
+          let entries : gifted .entries ≡ decode ws .entries = giveAll-entries who names (decode ws) in
+          let l : length (decode (encode gifted) .entries) ≡ length (decode ws .entries) = rw (same, entries) refl in
+          record {
+            isSound = sound-encode gifted w (few-rows gifted w);
+            below = omega (arith, h .place .below, decode-len (encode gifted));
+            removed = rw (same, entries, giveAll-with, ← (h .place .removed)) (sym (hit-call ws taking who p t result r h));
+          }

@@ -1,13 +1,16 @@
 -- The code's answers, as the rules' words and numbers.
 use mathlib.Core.Bool.{not}
-use mathlib.Core.List.{List, _∷_}
+use mathlib.Core.List.{List, _∷_, _++_}
 use mathlib.Core.Option.{Option, none, some}
-use Prim.Native.Nat.{ℕ, _≤_}
+use Prim.Native.Nat.{ℕ, _+_, _*_, _≤_}
 use lib.IntN.{ℤ}
+use lib.ListN.{take, drop}
+use Rattle.rules.specs.Fields.{namesIn}
 use Rattle.rules.specs.Matching.{Pair, storedPair, Op, matches}
+use Rattle.rules.specs.State.{giveAll}
 use Rattle.rules.specs.Calls.{done, found, nothing, refused, firstThatApplies, seekTable}
 use Rattle.rules.specs.Calls as calls
-use Rattle.rules.specs.Words.{decode, sound}
+use Rattle.rules.specs.Words.{encode, decode, sound}
 use Rattle.search.specs.Place.{place}
 use Rattle.search.specs.declared.Found as search
 use Rattle.search.specs.declared.Found.the-variants as search-found
@@ -32,11 +35,11 @@ Small (found n) = n ≤ 8
 Small nothing = Unit {0}
 Small (refused n) = n ≤ 9
 
--- C5: "none", or the refusal's number, where no entry was found
-abbrev pub unfound : Sought → calls.Answer
-unfound (At r) = nothing
-unfound Nothing = nothing
-unfound (sought.Refused n) = refused n
+-- C5: "found" with the count n, "none", or the refusal's number, by what was sought
+abbrev pub answered : Sought → ℕ → calls.Answer
+answered (At r) n = found n
+answered Nothing n = nothing
+answered (sought.Refused k) n = refused k
 
 abbrev pub atPlace : search.Found → Sought
 atPlace (search-found.At r) = At r
@@ -50,3 +53,14 @@ soughtBy none f = atPlace f
 unfoldable pub soughtIn : List ℕ → Op → ℕ → Pair ℤ → List ℕ → ℕ → Sought
 soughtIn ws op who p t room =
     soughtBy (firstThatApplies ((not (sound ws), 1) ∷ seekTable (decode ws) who p t room)) (place (matches op (storedPair p) t) (decode ws .entries))
+
+-- L4: the first n field words of row r
+abbrev pub fieldsAt : ℕ → ℕ → List ℕ → List ℕ
+fieldsAt r n ws = take n (drop (23 + 14 * r) ws)
+
+-- C3: space and result once an entry was sought: its fields come first in the result and the party holds the names in them, or no word changes
+abbrev pub delivered : Sought → ℕ → ℕ → List ℕ → List ℕ → List ℕ × List ℕ
+delivered (At r) who n ws result =
+    (encode (giveAll who (namesIn (fieldsAt r n ws)) (decode ws)), fieldsAt r n ws ++ drop n result)
+delivered Nothing who n ws result = (ws, result)
+delivered (sought.Refused k) who n ws result = (ws, result)

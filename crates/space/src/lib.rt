@@ -4,13 +4,13 @@ use search::Found;
 use search::Op;
 ghost use mathlib.Core.Path.{_≡_};
 ghost use mathlib.Core.List.{[], _++_};
-ghost use Prim.Native.Nat.{_+_, _*_, _<_, _≤_};
-ghost use lib.ListN.{length, take, drop};
+ghost use Prim.Native.Nat.{_<_, _≤_};
+ghost use lib.ListN.{length, drop};
 ghost use Rattle.rules.specs.Matching.{pair, reading, taking};
 ghost use Rattle.rules.specs.Calls.{put, seek};
 ghost use Rattle.rules.specs.Words.{exit, call, opening};
 ghost use Rattle.search.specs.Place as place;
-ghost use Rattle.space.specs.Answers.{meant, soughtIn, unfound};
+ghost use Rattle.space.specs.Answers.{meant, answered, soughtIn, fieldsAt, delivered};
 
 // C5: what a call answers.
 pub enum Answer {
@@ -20,7 +20,7 @@ pub enum Answer {
     Refused(u32),
 }
 
-// What a read or take comes to before it changes a word: the place of the oldest match, none, or a refusal.
+// What a read or take finds: the place of the oldest match, none, or a refusal.
 pub enum Sought {
     At(usize),
     Nothing,
@@ -82,22 +82,8 @@ pub fn read(
 ) -> Answer
     ensures { λ r. ⌜ exit (meant r) (now (space .exit)) (now (result .exit)) ≡ call (now (space .entry)) (seek reading party (pair partition key) (now (fields .entry)) (now (result .entry))) ⌝ }
 {
-    let found = find(
-        space,
-        Op::Reading,
-        party,
-        partition,
-        key,
-        fields,
-        result.len(),
-    );
-    let Sought::At(row) = found else {
-        return none_or_refusal(found);
-    };
-    let n = fields.len();
-    copy_out(space, row, n, result);
-    edits::hold_names(space, party as usize, &result[..n]);
-    Answer::Found(n)
+    let found = seek(space, Op::Reading, party, partition, key, fields, result);
+    answer_of(found, fields.len())
 }
 
 // C4
@@ -111,38 +97,29 @@ pub fn take(
 ) -> Answer
     ensures { λ r. ⌜ exit (meant r) (now (space .exit)) (now (result .exit)) ≡ call (now (space .entry)) (seek taking party (pair partition key) (now (fields .entry)) (now (result .entry))) ⌝ }
 {
-    let found = find(
-        space,
-        Op::Taking,
-        party,
-        partition,
-        key,
-        fields,
-        result.len(),
-    );
-    let Sought::At(row) = found else {
-        return none_or_refusal(found);
-    };
     let n = fields.len();
-    copy_out(space, row, n, result);
+    let found = seek(space, Op::Taking, party, partition, key, fields, result);
+    let Sought::At(row) = found else {
+        return answer_of(found, n);
+    };
     edits::remove_row(space, row);
-    edits::hold_names(space, party as usize, &result[..n]);
     Answer::Found(n)
 }
 
-// R1 to R7, then M5.
-fn find(
-    space: &[u64],
+// R1 to R7, M5, C3: what read and take have in common: the oldest match is sought, its fields are copied out, and the party holds the names in them.
+fn seek(
+    space: &mut [u64],
     op: Op,
     party: u32,
     partition: u32,
     key: i32,
     fields: &[u64],
-    room: usize,
+    result: &mut [u64],
 ) -> Sought
-    ensures { λ r. ⌜ r ≡ soughtIn (now (space .entry)) (place.meant op) party (pair partition key) (now (fields .entry)) room ⌝ }
+    ensures { λ r. ⌜ r ≡ soughtIn (now (space .entry)) (place.meant op) party (pair partition key) (now (fields .entry)) (length (now (result .entry))) ⌝ }
+    ensures { λ r. ⌜ (now (space .exit), now (result .exit)) ≡ delivered r party (length (now (fields .entry))) (now (space .entry)) (now (result .entry)) ⌝ }
 {
-    let verdict = refusals::of_seek(space, party, partition, key, fields, room);
+    let verdict = refusals::of_seek(space, party, partition, key, fields, result.len());
     if let Verdict::Refused(number) = verdict {
         return Sought::Refused(number);
     }
@@ -150,15 +127,18 @@ fn find(
     let Found::At(row) = search::search(space, op, partition as u64, cokey, fields) else {
         return Sought::Nothing;
     };
+    let n = fields.len();
+    copy_out(space, row, n, result);
+    edits::hold_names(space, party as usize, &result[..n]);
     Sought::At(row)
 }
 
-// C5: the answer of a read or take that found no entry.
-fn none_or_refusal(found: Sought) -> Answer
-    ensures { λ r. ⌜ meant r ≡ unfound found ⌝ }
+// C5: the answer of a read or take.
+fn answer_of(found: Sought, n: usize) -> Answer
+    ensures { λ r. ⌜ meant r ≡ answered found n ⌝ }
 {
     match found {
-        Sought::At(_) => Answer::None,
+        Sought::At(_) => Answer::Found(n),
         Sought::Nothing => Answer::None,
         Sought::Refused(number) => Answer::Refused(number),
     }
@@ -167,7 +147,7 @@ fn none_or_refusal(found: Sought) -> Answer
 // C3: the row's first n field words come first in the result, and the rest of it is kept.
 fn copy_out(space: &[u64], row: usize, n: usize, result: &mut [u64])
     requires { ⌜ (length (now space) ≡ 1809) × (row < 128) × (n ≤ 8) × (n ≤ length (now result)) ⌝ }
-    ensures { λ _. ⌜ now (result .exit) ≡ take n (drop (23 + 14 * row) (now (space .entry))) ++ drop n (now (result .entry)) ⌝ }
+    ensures { λ _. ⌜ now (result .exit) ≡ fieldsAt row n (now (space .entry)) ++ drop n (now (result .entry)) ⌝ }
 {
     let at = 23 + 14 * row;
     let end = at + n;
