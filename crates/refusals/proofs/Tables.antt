@@ -1,18 +1,23 @@
 -- Going down a table: a test that applies decides, and one that does not leaves the rest to decide.
-use Prim.Native.Nat.{ℕ}
+use Prim.Native.Nat.{ℕ, _≤_, _<_}
 use mathlib.Core.Path.{_≡_, refl, ap}
 use mathlib.Core.Logic.{_⊎_, inl, inr}
 use mathlib.Core.Bool.{Bool, true, false, not}
-use mathlib.Core.List.{List, [], _∷_}
+use mathlib.Core.List.{List, [], _∷_, _++_}
 use mathlib.Core.Option.{Option, none, some}
 use native.Mathlib.Omega.{arith}
+use borrow.Author.Tests.{ltb-false}
+use lib.ListN.{length}
+use Rattle.rules.specs.Lists.{All}
 use Rattle.rules.specs.State.{live}
 use Rattle.rules.specs.Calls.{Table, firstThatApplies}
 use Rattle.rules.specs.Words.{decode, sound}
-use Rattle.rules.proofs.ListLaws.{bool}
+use Rattle.rules.proofs.ListLaws.{bool, passed, not-false}
+use Rattle.rules.proofs.Back.{sound-facts}
 use Rattle.audit.specs.Audited.{audited}
 use Rattle.audit.specs.declared.Finding.the-variants.{Unsound, Sound}
-use Rattle.refusals.specs.Verdicts.{verdictOf, verdict}
+use Rattle.refusals.specs.Verdicts.{verdictOf, verdict, firstTests, begun}
+use Rattle.refusals.specs.declared.Begun.the-variants as tests
 use Rattle.refusals.specs.declared.Verdict.{Verdict}
 use Rattle.refusals.specs.declared.Verdict.the-variants.{Passed, Refused}
 
@@ -24,6 +29,48 @@ module _ (b : Bool) (n : ℕ) (ts : Table) where
   pub leaves : (v : Verdict) → b ≡ false → v ≡ verdict ts → v ≡ verdict ((b, n) ∷ ts)
   unfolding verdict
   leaves v h e = rw h e
+
+-- ---- the tests that come first
+
+abbrev either : Option ℕ → Option ℕ → Option ℕ
+either none p = p
+either (some n) p = some n
+
+first-append : (xs ys : Table) → firstThatApplies (xs ++ ys) ≡ either (firstThatApplies xs) (firstThatApplies ys)
+first-append [] ys = refl
+first-append (x ∷ xs) ys = go (bool (x .0)) (first-append xs ys)
+  where
+    go : (x .0 ≡ true) ⊎ (x .0 ≡ false) → firstThatApplies (xs ++ ys) ≡ either (firstThatApplies xs) (firstThatApplies ys)
+        → firstThatApplies (x ∷ (xs ++ ys)) ≡ either (firstThatApplies (x ∷ xs)) (firstThatApplies ys)
+    go (inl h) again = rw h refl
+    go (inr h) again = rw h again
+
+refused-by : (o : Option ℕ) (n k : ℕ) → tests.Refused k ≡ begun o n → o ≡ some k
+unfolding begun
+refused-by (some j) n k e = let z : j ≡ k = cc in ap some z
+refused-by none n k e = let z : _≡_ {A = ℕ} 0 1 = cc in absurd (omega arith)
+
+pub live-by : (o : Option ℕ) (n k : ℕ) → tests.Live k ≡ begun o n → (o ≡ none) × (k ≡ n)
+unfolding begun
+live-by (some j) n k e = let z : _≡_ {A = ℕ} 0 1 = cc in absurd (omega arith)
+live-by none n k e = (refl, cc)
+
+-- a table that begins with the first tests
+module _ (ts ys : Table) (ws : List ℕ) (who : ℕ) (fs : List ℕ) (begins : ts ≡ firstTests ws who fs ++ ys) where
+  pub first-decides : (n k : ℕ) → tests.Refused k ≡ begun (firstThatApplies (firstTests ws who fs)) n → Refused k ≡ verdict ts
+  unfolding verdict
+  first-decides n k e = rw (begins, first-append (firstTests ws who fs) ys, refused-by (firstThatApplies (firstTests ws who fs)) n k e) refl
+
+  pub first-leaves : (v : Verdict) → firstThatApplies (firstTests ws who fs) ≡ none → v ≡ verdict ys → v ≡ verdict ts
+  unfolding verdict
+  first-leaves v e h = rw (begins, first-append (firstTests ws who fs) ys, e) h
+
+pub first-passed : (ws : List ℕ) (who : ℕ) (fs : List ℕ) → firstThatApplies (firstTests ws who fs) ≡ none → (length ws ≡ 1809) × (who < 8)
+unfolding firstTests
+first-passed ws who fs e =
+    let p : All (λ t. t .0 ≡ false) (firstTests ws who fs) = passed (firstTests ws who fs) e in
+    let l : who ≤ 7 = ltb-false 7 who (p .1 .0) in
+    (sound-facts ws (not-false (sound ws) (p .0)) .len, omega arith)
 
 -- a verdict, back to its table
 pub verdict-refused : (ts : Table) (n : ℕ) → Refused n ≡ verdict ts → firstThatApplies ts ≡ some n

@@ -9,13 +9,19 @@ ghost use Rattle.rules.specs.Lists.{all};
 ghost use Rattle.rules.specs.Names.{keyInRange, heldIn};
 ghost use Rattle.rules.specs.Fields.{templateField, namesIn};
 ghost use Rattle.rules.specs.Matching.{pair, storedPair};
-ghost use Rattle.rules.specs.State.{holds};
-ghost use Rattle.rules.specs.Calls.{badPair, pairNames, putNames, seekNames, putTable, seekTable};
+ghost use Rattle.rules.specs.State.{holds, live};
+ghost use Rattle.rules.specs.Calls.{firstThatApplies, badPair, pairNames, putNames, seekNames, putTable, seekTable};
 ghost use Rattle.rules.specs.Words.{decode, sound, badRoster};
-ghost use Rattle.refusals.specs.Verdicts.{verdict};
+ghost use Rattle.refusals.specs.Verdicts.{verdict, firstTests, begun, refusalOf};
 
 pub enum Verdict {
     Passed,
+    Refused(u32),
+}
+
+// What the tests that every call begins with come to: how many live entries the party has, or a refusal.
+enum Begun {
+    Live(u64),
     Refused(u32),
 }
 
@@ -31,16 +37,10 @@ pub fn of_put(
 ) -> Verdict
     ensures { λ r. ⌜ r ≡ verdict ((not (sound (now (space .entry))), 1) ∷ putTable (decode (now (space .entry))) party (pair rpart rkey) (pair tpart tkey) (now (fields .entry))) ⌝ }
 {
-    let Finding::Sound(charge) = audit::audit(space, party) else {
-        return Verdict::Refused(1);
+    let begun = first_tests(space, party, fields);
+    let Begun::Live(live) = begun else {
+        return refusal(begun);
     };
-    if 7 < party {
-        return Verdict::Refused(2);
-    }
-    let n = fields.len();
-    if (n == 0) | (8 < n) {
-        return Verdict::Refused(3);
-    }
     let bad_read = bad_pair(rpart, rkey);
     let bad_take = bad_pair(tpart, tkey);
     if bad_read | bad_take {
@@ -52,7 +52,7 @@ pub fn of_put(
     if !put_held(space, party, rpart, rkey, tpart, tkey, fields) {
         return Verdict::Refused(7);
     }
-    if 16 <= charge {
+    if 16 <= live {
         return Verdict::Refused(8);
     }
     Verdict::Passed
@@ -69,29 +69,49 @@ pub fn of_seek(
 ) -> Verdict
     ensures { λ r. ⌜ r ≡ verdict ((not (sound (now (space .entry))), 1) ∷ seekTable (decode (now (space .entry))) party (pair partition key) (now (template .entry)) room) ⌝ }
 {
-    let Finding::Sound(_) = audit::audit(space, party) else {
-        return Verdict::Refused(1);
+    let begun = first_tests(space, party, template);
+    let Begun::Live(_) = begun else {
+        return refusal(begun);
     };
-    if 7 < party {
-        return Verdict::Refused(2);
-    }
-    let n = template.len();
-    if (n == 0) | (8 < n) {
-        return Verdict::Refused(3);
-    }
     if bad_pair(partition, key) {
         return Verdict::Refused(4);
     }
     if !template_fields(template) {
         return Verdict::Refused(5);
     }
-    if room < n {
+    if room < template.len() {
         return Verdict::Refused(6);
     }
     if !seek_held(space, party, partition, key, template) {
         return Verdict::Refused(7);
     }
     Verdict::Passed
+}
+
+// R1 to R3
+fn first_tests(space: &[u64], party: u32, fields: &[u64]) -> Begun
+    ensures { λ r. ⌜ r ≡ begun (firstThatApplies (firstTests (now (space .entry)) party (now (fields .entry)))) (live party (decode (now (space .entry)) .entries)) ⌝ }
+{
+    let Finding::Sound(live) = audit::audit(space, party) else {
+        return Begun::Refused(1);
+    };
+    if 7 < party {
+        return Begun::Refused(2);
+    }
+    let n = fields.len();
+    if (n == 0) | (8 < n) {
+        return Begun::Refused(3);
+    }
+    Begun::Live(live)
+}
+
+fn refusal(begun: Begun) -> Verdict
+    ensures { λ r. ⌜ r ≡ refusalOf begun ⌝ }
+{
+    match begun {
+        Begun::Live(_) => Verdict::Passed,
+        Begun::Refused(number) => Verdict::Refused(number),
+    }
 }
 
 // R4
