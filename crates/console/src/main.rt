@@ -12,22 +12,12 @@ fn main() {
         return;
     }
     let mut turn = session::begin(&input[..n], &mut out);
-    let mut number = 2;
     loop {
         let k = session::printed(turn);
         io::write_all(1, &out[..k]);
-        let Turn::Go(at, s, _) = turn else {
+        let Turn::Go(from, s, _) = turn else {
             return;
         };
-        turn = session::take_turn(
-            s,
-            &input[..n],
-            at,
-            number,
-            &mut roster,
-            &mut space,
-            &mut out,
-        );
-        number += 1;
+        turn = session::take_turn(s, &input[..n], from, &mut roster, &mut space, &mut out);
     }
 }

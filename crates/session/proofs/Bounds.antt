@@ -1,6 +1,6 @@
--- A reply is short, and a put's reply has no fields.
+-- A call that was made, and its reply, which is short.
 use Prim.Native.Nat.{ℕ, _+_, _*_, _≤_}
-use mathlib.Core.Path.{_≡_, refl, sym, ap, subst}
+use mathlib.Core.Path.{_≡_, refl, sym, ap, ap₂, _∙_, subst}
 use mathlib.Core.Option.{Option, none, some}
 use mathlib.Core.List.{List, [], _∷_, _++_}
 use native.Mathlib.Omega.{arith}
@@ -18,7 +18,7 @@ use Rattle.text.specs.Fields.{renderFields}
 use Rattle.text.proofs.Room.{decimal-short, fields-short}
 use Rattle.session.specs.Transcript.{answerText, replyText, unreadable}
 use Rattle.text.specs.Written.{Written}
-use Rattle.session.specs.Steps.{countOf, Replied}
+use Rattle.session.specs.Steps.{countOf, Made, Replied}
 
 number-short : (n : ℕ) → n ≤ 1000000 → length (decimal n) ≤ 7
 number-short n h = decimal-short 6 n (omega arith)
@@ -62,21 +62,41 @@ count-small (found n) h = h
 count-small nothing h = omega arith
 count-small (refused n) h = omega arith
 
-pub put-unfound : (ws : List ℕ) (who : ℕ) (r t : Pair ℤ) (fs : List ℕ) → countOf (call ws (put who r t fs) .answer) ≡ 0
-put-unfound ws who r t fs = rw (call-by ws (put who r t fs)) (go (firstThatApplies (refusals ws (put who r t fs))))
-  where
-    go : (o : Option ℕ) → countOf (callBy o ws (put who r t fs) .answer) ≡ 0
-    go (some n) = refl
-    go none = refl
+-- ---- what a call's contract says, as that it was made
 
--- ---- a reply that was printed, from what the call's contract says
-module _ (number : ℕ) (a : Answer) (ws result : List ℕ) (x : Exit) (e : exit a ws result ≡ x) where
+pub made-seek : (a : Answer) (ws result : List ℕ) (x : Exit) → exit a ws result ≡ x → Made a ws result x
+made-seek a ws result x e =
+    record {
+      answer = ap (λ (y : Exit). y .answer) e;
+      left = ap (λ (y : Exit). y .space) e;
+      fields = ap (λ (y : Exit). foundIn (y .answer) (y .result)) e;
+    }
+
+module _ (ws : List ℕ) (who : ℕ) (r t : Pair ℤ) (fs : List ℕ) where
+  put-unfound : (result : List ℕ) → foundIn (call ws (put who r t fs) .answer) result ≡ []
+  put-unfound result = rw (call-by ws (put who r t fs)) (go (firstThatApplies (refusals ws (put who r t fs))))
+    where
+      go : (o : Option ℕ) → foundIn (callBy o ws (put who r t fs) .answer) result ≡ []
+      go (some n) = refl
+      go none = refl
+
+  pub made-put : (a : Answer) (left result : List ℕ) → exit a left [] ≡ call ws (put who r t fs) → Made a left result (call ws (put who r t fs))
+  made-put a left result e =
+      let answer : a ≡ call ws (put who r t fs) .answer = ap (λ (y : Exit). y .answer) e in
+      record {
+        answer = answer;
+        left = ap (λ (y : Exit). y .space) e;
+        fields = ap (λ (b : Answer). foundIn b result) answer ∙ put-unfound result ∙ sym (put-unfound _);
+      }
+
+-- ---- a reply that was printed, of a call that was made
+module _ (number : ℕ) (a : Answer) (ws result : List ℕ) (x : Exit) (m : Made a ws result x) where
   is-small : Small (x .answer) → Small a
-  is-small h = subst Small (sym (ap (λ (y : Exit). y .answer) e)) h
+  is-small h = subst Small (sym (m .answer)) h
 
   text-is : replyText number (exit a [] result) ≡ replyText number x
   unfolding replyText
-  text-is = ap (λ (y : Exit). replyText number (exit (y .answer) [] (y .result))) e
+  text-is = ap₂ (λ (b : Answer) (fs : List ℕ). decimal number ++ (32 ∷ (answerText b ++ (32 ∷ (renderFields fs ++ (10 ∷ [])))))) (m .answer) (m .fields)
 
   pub reply-room : (room : ℕ) → number ≤ 1000000 → 256 ≤ room → Small (x .answer) → length (replyText number (exit a [] result)) ≤ room
   reply-room room h l s = le-trans (reply-short number (exit a [] result) h (is-small s)) l
@@ -86,4 +106,4 @@ module _ (number : ℕ) (a : Answer) (ws result : List ℕ) (x : Exit) (e : exit
 
   pub replied : {out after : List ℕ} {k : ℕ} → Written out 0 (replyText number (exit a [] result)) after k → Replied number x ws out after k
   replied {out} {after} {k} w =
-      record { left = ap (λ (y : Exit). y .space) e; written = subst (λ (t : List ℕ). Written out 0 t after k) text-is w }
+      record { left = m .left; written = subst (λ (t : List ℕ). Written out 0 t after k) text-is w }

@@ -17,7 +17,7 @@ use Rattle.rules.proofs.Rows.{length-zeros}
 use Rattle.text.specs.Fields.{before, beyond, parts}
 use Rattle.text.proofs.Placing.{written-none}
 use Rattle.text.proofs.Parts.{take-before, last-part, further-parts}
-use Rattle.session.specs.Lines.{give, ask, same, readLine}
+use Rattle.lines.specs.Lines.{give, ask, same, readLine}
 use Rattle.session.specs.Transcript.{Phase, giving, running, given, replyText, lineStep, unreadable, inputNames, outputNames, atEnd, transcript, fromStart}
 use Rattle.session.specs.Steps.{phaseOf, Ready, Goes, Replied}
 use Rattle.session.specs.declared.Session.{Session}
@@ -60,8 +60,8 @@ module _ (ph : Phase) (n : ℕ) (t : List ℕ) where
   unreadable-line m e h = rw (e, h) refl
 
   pub line-adds : (m : List ℕ) (next : Phase) (text : List ℕ) → beyond 10 t ≡ parts 10 m → lineStep ph (before 10 t) ≡ some (next, text)
-      → transcript ph n (parts 10 t) ≡ text ++ transcript next (suc n) (parts 10 m)
-  line-adds m next text e h = rw (e, h) refl
+      → transcript ph n (parts 10 t) ≡ text ++ transcript next (n + 1) (parts 10 m)
+  line-adds m next text e h = rw (e, h, add-one n) refl
 
 pub unended : (n : ℕ) (l : List ℕ) → (length l ≡ 0 → ⊥) → atEnd n l ≡ unreadable n
 unended n [] h = absurd (h refl)
@@ -97,7 +97,7 @@ fresh = record { sixteen = length-zeros 16; words = length-zeros 1809; fresh = �
 -- ---- a line that asks for a call: the space is opened first where it wasn't, and the reply is printed
 module _ (s : Session) (roster space line : List ℕ) (c : Call (List ℕ)) (ready : Ready s roster space) (read : readLine line ≡ some (ask c)) where
   pub asked-goes : (ws left out after : List ℕ) (k : ℕ) → ws ≡ openedSpace s roster space → Replied (s .calls + 1) (call ws c) left out after k
-      → length left ≡ 1809 → Goes (phaseOf s roster space) line s (record { opened = true; calls = s .calls + 1 }) roster left out after k
+      → length left ≡ 1809 → Goes (phaseOf s roster space) line s (record { opened = true; calls = s .calls + 1 }) roster roster left out after k
   asked-goes ws left out after k e r l =
       record {
         text = replyText (s .calls + 1) (call ws c);
@@ -105,12 +105,13 @@ module _ (s : Session) (roster space line : List ℕ) (c : Call (List ℕ)) (rea
         written = r .written;
         ready = record { sixteen = ready .sixteen; words = l; fresh = λ o. absurd (true≢false o); none = λ o. absurd (true≢false o) };
         calls = le-refl (s .calls + 1);
+        kept = λ _. refl;
       }
 
 -- a line that gives a name, before the first call
 pub give-goes : (s : Session) (roster space line roster′ out : List ℕ) (who : ℕ) (p k : Option ℕ) → Ready s roster space
     → readLine line ≡ some (give who p k) → s .opened ≡ false → roster′ ≡ given who p k roster → length roster′ ≡ 16
-    → Goes (phaseOf s roster space) line s s roster′ space out out 0
+    → Goes (phaseOf s roster space) line s s roster roster′ space out out 0
 give-goes s roster space line roster′ out who p k ready read o e l =
     record {
       text = [];
@@ -118,9 +119,5 @@ give-goes s roster space line roster′ out who p k ready read o e l =
       written = written-none out 0;
       ready = record { sixteen = l; words = ready .words; fresh = ready .fresh; none = ready .none };
       calls = omega arith;
+      kept = λ h. absurd (true≢false (sym h ∙ o));
     }
-
--- a reply to a call is one to an equal call
-pub replied-as : (ws : List ℕ) (x y : Call (List ℕ)) → x ≡ y → {n : ℕ} {left out after : List ℕ} {k : ℕ}
-    → Replied n (call ws x) left out after k → Replied n (call ws y) left out after k
-replied-as ws x y e {n} {left} {out} {after} {k} r = subst (λ (z : Call (List ℕ)). Replied n (call ws z) left out after k) e r

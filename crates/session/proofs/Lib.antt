@@ -1,5 +1,3 @@
-pub mod Items
-pub mod Readers
 pub mod Placed
 pub mod FoundFields
 pub mod Bounds

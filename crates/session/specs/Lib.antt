@@ -1,5 +1,2 @@
-pub mod Lines
-pub mod Parts
-pub mod Read
 pub mod Transcript
 pub mod Steps

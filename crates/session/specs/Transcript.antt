@@ -11,7 +11,7 @@ use Rattle.rules.specs.Words.{zeros, Exit, call, opening}
 use Rattle.rules.specs.Runs.{foundIn}
 use Rattle.text.specs.Numbers.{decimal}
 use Rattle.text.specs.Fields.{renderFields, parts}
-use Rattle.session.specs.Lines.{Line, give, ask, same, readLine}
+use Rattle.lines.specs.Lines.{Line, give, ask, same, readLine}
 
 -- T20: the console first builds the roster, and from the first call on runs the space
 pub data Phase : Type 0 where

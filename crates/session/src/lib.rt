@@ -1,21 +1,21 @@
 // What the console does with its input, line by line.
-mod lines;
 mod replies;
 
+use lines::Call;
 use lines::Gift;
 use lines::Line;
+use search::Op;
 use space::Answer;
 ghost use mathlib.Core.Path.{_≡_};
 ghost use mathlib.Core.Bool.{cond};
 ghost use Prim.Native.Nat.{_<_, _≤_};
 ghost use lib.ListN.{length, drop};
-ghost use Rattle.rules.specs.Matching.{pair, reading, taking};
-ghost use Rattle.rules.specs.Calls.{put, seek};
 ghost use Rattle.rules.specs.Words.{zeros, call, opening};
+ghost use Rattle.space.specs.Answers.{meant};
 ghost use Rattle.text.specs.Fields.{parts};
 ghost use Rattle.session.specs.Transcript.{withName, fromStart, transcript};
-ghost use Rattle.session.specs.Read.{nameOf, GiftUpTo};
-ghost use Rattle.session.specs.Steps.{phaseOf, Ready, Gave, Replied, StepIs, Turned, moreAfter, printedBy, Onward};
+ghost use Rattle.lines.specs.Read.{nameOf, meantCall, fieldCount, GiftUpTo};
+ghost use Rattle.session.specs.Steps.{phaseOf, Ready, Gave, Made, Replied, StepIs, Turned, moreAfter, printedBy, Onward, Kept};
 
 // T20: whether the space is open, and how many calls were made.
 pub struct Session {
@@ -29,17 +29,23 @@ pub enum Step {
     Next(Session, usize),
 }
 
+// T22, T25: where a line begins, and its number.
+pub struct LineStart {
+    pub at: usize,
+    pub number: u64,
+}
+
 // T25: the input is done with, or the next line begins there; that many bytes are printed.
 pub enum Turn {
     Stop(usize),
-    Go(usize, Session, usize),
+    Go(LineStart, Session, usize),
 }
 
 // T24: the first line.
 pub fn begin(input: &[u8], out: &mut [u8]) -> Turn
     requires { ⌜ 256 ≤ length (now out) ⌝ }
-    ensures { λ r. ⌜ Turned (fromStart (parts 10 (now (input .entry)))) (now (out .entry)) (now (out .exit)) (printedBy r) (moreAfter r (now (input .entry)) 1 (zeros 16) (zeros 1809)) ⌝ }
-    ensures { λ r. ⌜ Onward r 0 0 (now (input .entry)) (zeros 16) (zeros 1809) ⌝ }
+    ensures { λ r. ⌜ Turned (fromStart (parts 10 (now (input .entry)))) (now (out .entry)) (now (out .exit)) (printedBy r) (moreAfter r (now (input .entry)) (zeros 16) (zeros 1809)) ⌝ }
+    ensures { λ r. ⌜ Onward r 0 1 0 (now (input .entry)) (zeros 16) (zeros 1809) ⌝ }
 {
     let end = text::part_end(input, 0, 10);
     if end == input.len() {
@@ -50,7 +56,10 @@ pub fn begin(input: &[u8], out: &mut [u8]) -> Turn
     }
     let k = replies::place(b"line answer fields\n", out, 0);
     Turn::Go(
-        end + 1,
+        LineStart {
+            at: end + 1,
+            number: 2,
+        },
         Session {
             opened: false,
             calls: 0,
@@ -59,20 +68,22 @@ pub fn begin(input: &[u8], out: &mut [u8]) -> Turn
     )
 }
 
-// T25: the line that begins there, with its number.
+// T25: the line that begins there.
 pub fn take_turn(
     s: Session,
     input: &[u8],
-    at: usize,
-    number: u64,
+    from: LineStart,
     roster: &mut [u64],
     space: &mut [u64],
     out: &mut [u8],
 ) -> Turn
-    requires { ⌜ (at ≤ length (now input)) × (number < 1000000) × (s .calls < 1000000) × Ready s (now roster) (now space) × (256 ≤ length (now out)) ⌝ }
-    ensures { λ r. ⌜ Turned (transcript (phaseOf s (now (roster .entry)) (now (space .entry))) number (parts 10 (drop at (now (input .entry))))) (now (out .entry)) (now (out .exit)) (printedBy r) (moreAfter r (now (input .entry)) number (now (roster .exit)) (now (space .exit))) ⌝ }
-    ensures { λ r. ⌜ Onward r at (s .calls) (now (input .entry)) (now (roster .exit)) (now (space .exit)) ⌝ }
+    requires { ⌜ (from .at ≤ length (now input)) × (from .number < 1000000) × (s .calls < 1000000) × Ready s (now roster) (now space) × (256 ≤ length (now out)) ⌝ }
+    ensures { λ r. ⌜ Turned (transcript (phaseOf s (now (roster .entry)) (now (space .entry))) (from .number) (parts 10 (drop (from .at) (now (input .entry))))) (now (out .entry)) (now (out .exit)) (printedBy r) (moreAfter r (now (input .entry)) (now (roster .exit)) (now (space .exit))) ⌝ }
+    ensures { λ r. ⌜ Onward r (from .at) (from .number) (s .calls) (now (input .entry)) (now (roster .exit)) (now (space .exit)) ⌝ }
+    ensures { λ r. ⌜ Kept r (now (roster .entry)) (now (roster .exit)) (now (space .entry)) (now (space .exit)) ⌝ }
 {
+    let at = from.at;
+    let number = from.number;
     let end = text::part_end(input, at, 10);
     if end == input.len() {
         if end == at {
@@ -83,7 +94,11 @@ pub fn take_turn(
     let Step::Next(next, k) = step_line(s, &input[at..end], roster, space, out) else {
         return Turn::Stop(replies::render_unreadable(number, out));
     };
-    Turn::Go(end + 1, next, k)
+    let start = LineStart {
+        at: end + 1,
+        number: number + 1,
+    };
+    Turn::Go(start, next, k)
 }
 
 // T20
@@ -107,20 +122,9 @@ pub fn step_line(
     match read {
         Line::Unreadable => Step::Unreadable,
         Line::Give(party, partition, key) => give(s, party as usize, partition, key, roster),
-        Line::Put(party, rpart, rkey, tpart, tkey, n) => {
+        Line::Ask(asked) => {
             open_first(s, roster, space);
-            let fields = &words[..n];
-            let k = reply_put(space, number, party, rpart, rkey, tpart, tkey, fields, out);
-            Step::Next(next, k)
-        }
-        Line::Read(party, partition, key, n) => {
-            open_first(s, roster, space);
-            let k = reply_read(space, number, party, partition, key, &words[..n], out);
-            Step::Next(next, k)
-        }
-        Line::Take(party, partition, key, n) => {
-            open_first(s, roster, space);
-            let k = reply_take(space, number, party, partition, key, &words[..n], out);
+            let k = reply(space, number, asked, &words, out);
             Step::Next(next, k)
         }
     }
@@ -164,60 +168,33 @@ fn open_first(s: Session, roster: &[u64], space: &mut [u64])
     }
 }
 
-// T21
-fn reply_put(
-    space: &mut [u64],
-    number: u64,
-    party: u32,
-    rpart: u32,
-    rkey: i32,
-    tpart: u32,
-    tkey: i32,
-    fields: &[u64],
-    out: &mut [u8],
-) -> usize
-    requires { ⌜ (number ≤ 1000000) × (256 ≤ length (now out)) ⌝ }
-    ensures { λ r. ⌜ Replied number (call (now (space .entry)) (put party (pair rpart rkey) (pair tpart tkey) (now (fields .entry)))) (now (space .exit)) (now (out .entry)) (now (out .exit)) r ⌝ }
-{
-    let answer = space::put(space, party, rpart, rkey, tpart, tkey, fields);
-    let none = [0u64; 0];
-    replies::render_reply(number, answer, &none, out)
-}
-
-// T21
-fn reply_read(
-    space: &mut [u64],
-    number: u64,
-    party: u32,
-    partition: u32,
-    key: i32,
-    fields: &[u64],
-    out: &mut [u8],
-) -> usize
-    requires { ⌜ (number ≤ 1000000) × (256 ≤ length (now out)) ⌝ }
-    ensures { λ r. ⌜ Replied number (call (now (space .entry)) (seek reading party (pair partition key) (now (fields .entry)) (zeros 8))) (now (space .exit)) (now (out .entry)) (now (out .exit)) r ⌝ }
+// T21: the call is made, and its reply printed.
+fn reply(space: &mut [u64], number: u64, asked: Call, words: &[u64], out: &mut [u8]) -> usize
+    requires { ⌜ (number ≤ 1000000) × (fieldCount asked ≤ length (now words)) × (256 ≤ length (now out)) ⌝ }
+    ensures { λ r. ⌜ Replied number (call (now (space .entry)) (meantCall asked (now (words .entry)))) (now (space .exit)) (now (out .entry)) (now (out .exit)) r ⌝ }
 {
     let mut result = [0u64; 8];
-    let answer = space::read(space, party, partition, key, fields, &mut result);
+    let answer = make(space, asked, words, &mut result);
     replies::render_reply(number, answer, &result, out)
 }
 
-// T21
-fn reply_take(
-    space: &mut [u64],
-    number: u64,
-    party: u32,
-    partition: u32,
-    key: i32,
-    fields: &[u64],
-    out: &mut [u8],
-) -> usize
-    requires { ⌜ (number ≤ 1000000) × (256 ≤ length (now out)) ⌝ }
-    ensures { λ r. ⌜ Replied number (call (now (space .entry)) (seek taking party (pair partition key) (now (fields .entry)) (zeros 8))) (now (space .exit)) (now (out .entry)) (now (out .exit)) r ⌝ }
+// C2 to C4
+fn make(space: &mut [u64], asked: Call, words: &[u64], result: &mut [u64]) -> Answer
+    requires { ⌜ (fieldCount asked ≤ length (now words)) × (now result ≡ zeros 8) ⌝ }
+    ensures { λ r. ⌜ Made (meant r) (now (space .exit)) (now (result .exit)) (call (now (space .entry)) (meantCall asked (now (words .entry)))) ⌝ }
 {
-    let mut result = [0u64; 8];
-    let answer = space::take(space, party, partition, key, fields, &mut result);
-    replies::render_reply(number, answer, &result, out)
+    match asked {
+        Call::Put(party, rpart, rkey, tpart, tkey, n) => {
+            space::put(space, party, rpart, rkey, tpart, tkey, &words[..n])
+        }
+        Call::Seek(op, party, partition, key, n) => {
+            let fields = &words[..n];
+            match op {
+                Op::Reading => space::read(space, party, partition, key, fields, result),
+                Op::Taking => space::take(space, party, partition, key, fields, result),
+            }
+        }
+    }
 }
 
 // T22, T25: how many bytes are to be printed.

@@ -7,20 +7,20 @@ use Rattle.rules.specs.Words.{zeros}
 use Rattle.session.specs.declared.Turn.{Turn}
 use Rattle.session.specs.declared.Turn.the-variants.{Go}
 use native.Mathlib.Omega.{arith}
-use Rattle.console.proofs.Turns.{Fine, Running, left, printed-fits, begin-fine, turn-fine, turn-less}
+use Rattle.console.proofs.Turns.{Fine, Running, left, printed-fits, turn-fine, turn-less}
 use borrow.Author.Needs.{needs}
 use Rattle.console.proofs.main.Statement.{statement}
 use Rattle.console.proofs.main.Tie as tie
 
 abbrev Inv-loop : tie.InvT-loop
-Inv-loop input space₀ roster₀ out₀ n turn₀ number₀ space roster out turn number = Running input n space roster out turn number
+Inv-loop input space₀ roster₀ out₀ n turn₀ space roster out turn = Running input n space roster out turn
 
 abbrev μ-loop : tie.MeasureT-loop
-μ-loop input space₀ roster₀ out₀ n turn₀ number₀ space roster out turn number = left turn n
+μ-loop input space₀ roster₀ out₀ n turn₀ space roster out turn = left turn n
 
 -- where the turn goes on
-going : (c : tie.After-known-told Inv-loop μ-loop) → Fine (Go (c .before .turn .given .0 .0) (c .before .turn .given .0 .1 .0) (c .before .turn .given .0 .1 .1 .0)) (c .before .before .before .before .before .before .before .before .before .before .before .before .before .read-full .result) (c .before .before .before .before .before .before .loop .number) (c .before .before .before .before .before .before .loop .roster) (c .before .before .before .before .before .before .loop .space)
-going c = subst (λ (t : Turn). Fine t (c .before .before .before .before .before .before .before .before .before .before .before .before .before .read-full .result) (c .before .before .before .before .before .before .loop .number) (c .before .before .before .before .before .before .loop .roster) (c .before .before .before .before .before .before .loop .space)) (c .before .turn .given .1) (c .before .before .before .before .before .before .loop .inv .fine)
+going : (c : tie.After-known-told Inv-loop μ-loop) → Fine (Go (c .before .turn .given .0 .0) (c .before .turn .given .0 .1 .0) (c .before .turn .given .0 .1 .1 .0)) (c .before .before .before .before .before .before .before .before .before .before .before .before .before .read-full .result) (c .before .before .before .before .before .before .loop .roster) (c .before .before .before .before .before .before .loop .space)
+going c = subst (λ (t : Turn). Fine t (c .before .before .before .before .before .before .before .before .before .before .before .before .before .read-full .result) (c .before .before .before .before .before .before .loop .roster) (c .before .before .before .before .before .before .loop .space)) (c .before .turn .given .1) (c .before .before .before .before .before .before .loop .inv .fine)
 
 slice-aggregate-read-full : tie.Need-slice-aggregate-read-full Inv-loop μ-loop
 slice-aggregate-read-full c = search needs
@@ -61,7 +61,7 @@ loop-holds c =
       rosterLen = search needs;
       outLen = search needs;
       fits = printed-fits _ _ _ _ _ (c .before .begin .ensures .0) (search needs) (search needs);
-      fine = begin-fine (c .before .before .before .before .before .before .read-full .last .1 .0) _ small few (c .before .begin .result) (zeros 16) (zeros 1809) (c .before .begin .ensures .1);
+      fine = turn-fine (c .before .before .before .before .before .before .read-full .last .1 .0) _ small few (c .before .begin .result) 0 1 0 (zeros 16) (zeros 1809) (c .before .begin .ensures .1) (omega arith) (omega arith);
     }
 
 printed-requires : tie.Need-printed-requires Inv-loop μ-loop
@@ -107,14 +107,11 @@ take-turn-requires c κs =
     let l = length-take (c .before .before .before .before .before .before .before .before .before .before .before .before .before .before .before .before .before .read-full .result) (c .before .before .before .before .before .before .before .before .before .before .before .before .before .before .before .before .before .read-full .last .1 .0) in
     (omega (arith, f .1, i .few, i .inputLen), omega (arith, f .0, f .1, i .few), omega (arith, f .3, f .0, f .1, i .few), f .2, omega (arith, i .outLen))
 
-add-number : tie.Need-add-number Inv-loop μ-loop
-add-number c = let f = going (c .before .before .before .before .before .before .before .before) in record { fits = omega (arith, f .0, f .1, c .before .before .before .before .before .before .before .before .before .before .before .before .before .before .loop .inv .few) }
-
 loop-less : tie.Need-loop-less Inv-loop μ-loop
 loop-less c =
     let i = c .before .before .before .before .before .before .before .before .before .before .before .before .before .before .loop .inv in
     subst (λ (t : Turn). left (c .before .before .before .take-turn .result) (c .before .before .before .before .before .before .before .before .before .before .before .before .before .before .before .before .before .before .before .before .before .read-full .result) < left t (c .before .before .before .before .before .before .before .before .before .before .before .before .before .before .before .before .before .before .before .before .before .read-full .result)) (sym (c .before .before .before .before .before .before .before .before .before .turn .given .1))
-    (turn-less (c .before .before .before .before .before .before .before .before .before .before .before .before .before .before .before .before .before .before .before .before .before .read-full .last .1 .0) _ (i .inputLen) (i .few) (c .before .before .before .take-turn .result) _ _ _ _ (c .before .before .before .take-turn .ensures .1) (going (c .before .before .before .before .before .before .before .before) .1))
+    (turn-less (c .before .before .before .before .before .before .before .before .before .before .before .before .before .before .before .before .before .before .before .before .before .read-full .last .1 .0) _ (i .inputLen) (i .few) (c .before .before .before .take-turn .result) _ _ _ _ _ (c .before .before .before .take-turn .ensures .1 .0) (going (c .before .before .before .before .before .before .before .before) .1))
 
 loop-again : tie.Need-loop-again Inv-loop μ-loop
 loop-again c =
@@ -127,7 +124,7 @@ loop-again c =
       rosterLen = search needs;
       outLen = search needs;
       fits = printed-fits _ _ _ _ _ (c .before .before .before .take-turn .ensures .0) (i .outLen) (search needs);
-      fine = turn-fine (c .before .before .before .before .before .before .before .before .before .before .before .before .before .before .before .before .before .before .before .before .before .read-full .last .1 .0) _ (i .inputLen) (i .few) (c .before .before .before .take-turn .result) _ _ _ _ _ (c .before .before .before .take-turn .ensures .1) (f .0) (f .3);
+      fine = turn-fine (c .before .before .before .before .before .before .before .before .before .before .before .before .before .before .before .before .before .before .before .before .before .read-full .last .1 .0) _ (i .inputLen) (i .few) (c .before .before .before .take-turn .result) _ _ _ _ _ (c .before .before .before .take-turn .ensures .1 .0) (f .0) (f .3);
     }
 
 pub main-spec : {M : Type 1} → statement M
@@ -159,6 +156,5 @@ main-spec =
     slice-aggregate-take-turn-3
     slice-aggregate-take-turn-4
     take-turn-requires
-    add-number
     loop-less
     loop-again)

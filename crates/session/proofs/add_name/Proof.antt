@@ -4,8 +4,8 @@ use mathlib.Core.Path.{sym, ap, _∙_, subst}
 use native.Mathlib.Omega.{arith}
 use lib.ListN.{set}
 use Rattle.session.specs.Transcript.{withName}
-use Rattle.session.specs.Read.{nameOf, GiftUpTo}
-use Rattle.session.specs.declared.lines.Gift.{Gift}
+use Rattle.lines.specs.Read.{nameOf, GiftUpTo}
+use Rattle.lines.specs.declared.Gift.{Gift}
 use borrow.Author.Needs.{needs}
 use Rattle.session.proofs.add_name.Statement.{statement}
 use Rattle.session.proofs.add_name.Tie as tie

@@ -1,5 +1,5 @@
 -- `begin` meets its contract: the first line is the names line, or unreadable.
-use mathlib.Core.Path.{sym}
+use mathlib.Core.Path.{refl, sym}
 use native.Mathlib.Omega.{arith}
 use lib.Seq.{length-take-le}
 use Rattle.text.proofs.Parts.{end-high}
@@ -57,7 +57,7 @@ returns-3 : tie.Need-returns-3
 unfolding inputNames outputNames
 returns-3 c =
     let l = end-high 10 (c .before .before .before .before .before .before .before .before .before .before .before .before .before .args .input .now) 0 _ (search needs) (c .before .before .before .before .before .before .before .before .before .before .part-end .ensures) in
-    (record { text = outputNames; adds = start-names (c .before .before .before .before .before .before .before .before .before .before .before .before .before .args .input .now) _ (c .before .before .before .before .before .before .before .before .before .before .part-end .ensures) (c .before .before .before .before .before .before .before .before .before .if1 .left) _ (c .before .before .before .before .before .before .same .ensures) (c .before .before .before .before .before .if2 .left); written = c .before .before .place .ensures }, (omega arith, omega (arith, c .before .before .before .before .before .before .before .before .before .if1 .left), fresh, omega arith))
+    (record { text = outputNames; adds = start-names (c .before .before .before .before .before .before .before .before .before .before .before .before .before .args .input .now) _ (c .before .before .before .before .before .before .before .before .before .before .part-end .ensures) (c .before .before .before .before .before .before .before .before .before .if1 .left) _ (c .before .before .before .before .before .before .same .ensures) (c .before .before .before .before .before .if2 .left); written = c .before .before .place .ensures }, (omega arith, omega (arith, c .before .before .before .before .before .before .before .before .before .if1 .left), refl, fresh, omega arith))
 
 pub begin-spec : {M : Type 1} → statement M
 begin-spec =

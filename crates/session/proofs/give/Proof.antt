@@ -4,7 +4,7 @@ use mathlib.Core.List.{List}
 use Prim.Native.Nat.{ℕ, _+_}
 use native.Mathlib.Omega.{arith}
 use Rattle.session.specs.Transcript.{withName, given}
-use Rattle.session.specs.Read.{nameOf}
+use Rattle.lines.specs.Read.{nameOf}
 use Rattle.session.proofs.Gifts.{wider}
 use borrow.Author.Needs.{needs}
 use Rattle.session.proofs.give.Statement.{statement}

@@ -13,13 +13,13 @@ use mir.Val.{toZ, ofZ}
 use Rattle.rules.specs.Matching.{pair, reading, taking}
 use Rattle.rules.specs.Calls.{Call, put, seek}
 use Rattle.rules.specs.Words.{zeros}
-use Rattle.session.specs.Lines.{give, ask, readLine}
-use Rattle.session.specs.Read.{meant, nameOf, InRange}
+use Rattle.lines.specs.Lines.{give, ask, readLine}
+use Rattle.lines.specs.Read.{meantCall, meant, nameOf, InRange}
 use Rattle.session.specs.Steps.{Gave, StepIs}
 use Rattle.session.specs.declared.Step.{Step}
 use Rattle.session.specs.declared.Step.the-variants.{Unreadable, Next}
-use Rattle.session.specs.declared.lines.Line.{Line}
-use Rattle.session.proofs.Follow.{step-unreadable, step-late, asked-goes, give-goes, replied-as}
+use Rattle.lines.specs.declared.Line.{Line}
+use Rattle.session.proofs.Follow.{step-unreadable, step-late, asked-goes, give-goes}
 use borrow.Author.Needs.{needs}
 use Rattle.session.proofs.step_line.Statement.{statement}
 use Rattle.session.proofs.step_line.Tie as tie
@@ -70,44 +70,14 @@ enum-known-read-2 c = search needs
 open-first-requires : tie.Need-open-first-requires
 open-first-requires c κs = search needs
 
-array-share-prefix-words : tie.Need-array-share-prefix-words
-array-share-prefix-words c = let r = subst InRange (c .before .before .before .before .before .before .read2 .given .1) (c .before .before .before .before .before .before .before .before .before .read-line .ensures .inRange) in omega (arith, c .before .before .before .before .before .before .before .before .before .read-line .kept .1 .0)
+slice-aggregate-reply : tie.Need-slice-aggregate-reply
+slice-aggregate-reply c = search needs
 
-slice-aggregate-fields : tie.Need-slice-aggregate-fields
-slice-aggregate-fields c = let r = subst InRange (c .before .before .before .before .before .before .before .read2 .given .1) (c .before .before .before .before .before .before .before .before .before .before .read-line .ensures .inRange) in sym (length-take-le _ _ (omega (arith, c .before .before .before .before .before .before .before .before .before .before .read-line .kept .1 .0)))
-
-reply-put-requires : tie.Need-reply-put-requires
-reply-put-requires c κs = search needs
-
-enum-known-read-3 : tie.Need-enum-known-read-3
-enum-known-read-3 c = search needs
-
-open-first-requires-2 : tie.Need-open-first-requires-2
-open-first-requires-2 c κs = search needs
-
-array-share-prefix-words-2 : tie.Need-array-share-prefix-words-2
-array-share-prefix-words-2 c = let r = subst InRange (c .before .before .before .before .before .before .before .read3 .given .1) (c .before .before .before .before .before .before .before .before .before .before .read-line .ensures .inRange) in omega (arith, c .before .before .before .before .before .before .before .before .before .before .read-line .kept .1 .0)
-
-slice-aggregate-reply-read : tie.Need-slice-aggregate-reply-read
-slice-aggregate-reply-read c = let r = subst InRange (c .before .before .before .before .before .before .before .before .read3 .given .1) (c .before .before .before .before .before .before .before .before .before .before .before .read-line .ensures .inRange) in sym (length-take-le _ _ (omega (arith, c .before .before .before .before .before .before .before .before .before .before .before .read-line .kept .1 .0)))
-
-reply-read-requires : tie.Need-reply-read-requires
-reply-read-requires c κs = search needs
-
-enum-known-read-4 : tie.Need-enum-known-read-4
-enum-known-read-4 c = search needs
-
-open-first-requires-3 : tie.Need-open-first-requires-3
-open-first-requires-3 c κs = search needs
-
-array-share-prefix-words-3 : tie.Need-array-share-prefix-words-3
-array-share-prefix-words-3 c = let r = subst InRange (c .before .before .before .before .before .before .before .read4 .given .1) (c .before .before .before .before .before .before .before .before .before .before .read-line .ensures .inRange) in omega (arith, c .before .before .before .before .before .before .before .before .before .before .read-line .kept .1 .0)
-
-slice-aggregate-reply-take : tie.Need-slice-aggregate-reply-take
-slice-aggregate-reply-take c = let r = subst InRange (c .before .before .before .before .before .before .before .before .read4 .given .1) (c .before .before .before .before .before .before .before .before .before .before .before .read-line .ensures .inRange) in sym (length-take-le _ _ (omega (arith, c .before .before .before .before .before .before .before .before .before .before .before .read-line .kept .1 .0)))
-
-reply-take-requires : tie.Need-reply-take-requires
-reply-take-requires c κs = search needs
+reply-requires : tie.Need-reply-requires
+reply-requires c κs =
+    let few = subst InRange (c .before .before .before .before .before .before .before .before .before .read2 .given .1) (c .before .before .before .before .before .before .before .before .before .before .before .before .read-line .ensures .inRange) in
+    let s = c .before .before .before .before .before .before .before .before .before .before .before .before .before .before .before .before .before .before .before in
+    (omega (arith, s .pre .0), omega (arith, few, c .before .before .before .before .before .before .before .before .before .before .before .before .read-line .kept .1 .0), s .pre .2)
 
 returns : tie.Need-returns
 returns c =
@@ -131,58 +101,12 @@ same-length-4 c = search needs
 
 returns-3 : tie.Need-returns-3
 returns-3 c =
-    let a = c .before .before .before .before .before .before .before .before .before .before .before .before .before .before .before .before .before .before .before .before .before .before .before .before .args in
-    let v = c .before .before .before .before .before .before .before .before .before .before .before .before .before .before .read2 .given .0 in
+    let s = c .before .before .before .before .before .before .before .before .before .before .before .before .before .before .before .before .before .before .before .before .before .before .before .before in
+    let a = s .args in
     let words = c .before .before .before .before .before .before .before .before .before .before .before .before .before .before .before .before .before .read-line .last .1 .0 in
-    let asked : ℤ → ℤ → Call (List ℕ) = λ r t. put (v .0) (pair (v .1 .0) r) (pair (v .1 .1 .1 .0) t) (take (v .1 .1 .1 .1 .1 .0) words) in
-    let read : readLine (a .line .now) ≡ some (ask (asked (v .1 .1 .0) (v .1 .1 .1 .1 .0))) = sym (c .before .before .before .before .before .before .before .before .before .before .before .before .before .before .before .before .before .read-line .ensures .is) ∙ ap (λ (l : Line). meant l words) (c .before .before .before .before .before .before .before .before .before .before .before .before .before .before .read2 .given .1) in
-    let rkey : toZ w32 (ofZ w32 (v .1 .1 .0)) ≡ v .1 .1 .0 = toZ-ofZ (record { sfits = c .before .before .before .before .before .before .before .before .before .before .before .before .before .known-told2 .given .1 .1 .0 .1 }) in
-    let tkey : toZ w32 (ofZ w32 (v .1 .1 .1 .1 .0)) ≡ v .1 .1 .1 .1 .0 = toZ-ofZ (record { sfits = c .before .before .before .before .before .before .before .before .before .before .before .before .before .known-told2 .given .1 .1 .1 .1 .0 .1 }) in
-    let replied = replied-as (c .before .before .before .before .before .before .before .before .before .before .open-first .last .1 .1 .0) _ _ (ap₂ asked rkey tkey) (c .before .before .before .before .reply-put .ensures) in
-    let whole : length (c .before .before .before .before .reply-put .last .0) ≡ 1809 = omega (arith, c .before .before .before .before .reply-put .kept .0, c .before .before .before .before .before .before .before .before .before .before .open-first .kept .1 .1 .0, c .before .before .before .before .before .before .before .before .before .before .before .before .before .before .before .before .before .before .before .before .before .before .before .before .pre .1 .words) in
-    asked-goes (a .s) (a .roster .now) (a .space .now) (a .line .now) (asked (v .1 .1 .0) (v .1 .1 .1 .1 .0)) (c .before .before .before .before .before .before .before .before .before .before .before .before .before .before .before .before .before .before .before .before .before .before .before .before .pre .1) read _ _ _ _ _ (c .before .before .before .before .before .before .before .before .before .before .open-first .ensures) replied whole
-
-same-length-5 : tie.Need-same-length-5
-same-length-5 c = search needs
-
-same-length-6 : tie.Need-same-length-6
-same-length-6 c = search needs
-
-same-length-7 : tie.Need-same-length-7
-same-length-7 c = search needs
-
-returns-4 : tie.Need-returns-4
-returns-4 c =
-    let a = c .before .before .before .before .before .before .before .before .before .before .before .before .before .before .before .before .before .before .before .before .before .before .before .before .args in
-    let v = c .before .before .before .before .before .before .before .before .before .before .before .before .before .before .read3 .given .0 in
-    let words = c .before .before .before .before .before .before .before .before .before .before .before .before .before .before .before .before .before .read-line .last .1 .0 in
-    let asked : ℤ → Call (List ℕ) = λ k. seek reading (v .0) (pair (v .1 .0) k) (take (v .1 .1 .1 .0) words) (zeros 8) in
-    let read : readLine (a .line .now) ≡ some (ask (asked (v .1 .1 .0))) = sym (c .before .before .before .before .before .before .before .before .before .before .before .before .before .before .before .before .before .read-line .ensures .is) ∙ ap (λ (l : Line). meant l words) (c .before .before .before .before .before .before .before .before .before .before .before .before .before .before .read3 .given .1) in
-    let key : toZ w32 (ofZ w32 (v .1 .1 .0)) ≡ v .1 .1 .0 = toZ-ofZ (record { sfits = c .before .before .before .before .before .before .before .before .before .before .before .before .before .known-told3 .given .1 .1 .0 .1 }) in
-    let replied = replied-as (c .before .before .before .before .before .before .before .before .before .before .open-first2 .last .1 .1 .0) _ _ (ap asked key) (c .before .before .before .before .reply-read .ensures) in
-    let whole : length (c .before .before .before .before .reply-read .last .0) ≡ 1809 = omega (arith, c .before .before .before .before .reply-read .kept .0, c .before .before .before .before .before .before .before .before .before .before .open-first2 .kept .1 .1 .0, c .before .before .before .before .before .before .before .before .before .before .before .before .before .before .before .before .before .before .before .before .before .before .before .before .pre .1 .words) in
-    asked-goes (a .s) (a .roster .now) (a .space .now) (a .line .now) (asked (v .1 .1 .0)) (c .before .before .before .before .before .before .before .before .before .before .before .before .before .before .before .before .before .before .before .before .before .before .before .before .pre .1) read _ _ _ _ _ (c .before .before .before .before .before .before .before .before .before .before .open-first2 .ensures) replied whole
-
-same-length-8 : tie.Need-same-length-8
-same-length-8 c = search needs
-
-same-length-9 : tie.Need-same-length-9
-same-length-9 c = search needs
-
-same-length-10 : tie.Need-same-length-10
-same-length-10 c = search needs
-
-returns-5 : tie.Need-returns-5
-returns-5 c =
-    let a = c .before .before .before .before .before .before .before .before .before .before .before .before .before .before .before .before .before .before .before .before .before .before .before .before .args in
-    let v = c .before .before .before .before .before .before .before .before .before .before .before .before .before .before .read4 .given .0 in
-    let words = c .before .before .before .before .before .before .before .before .before .before .before .before .before .before .before .before .before .read-line .last .1 .0 in
-    let asked : ℤ → Call (List ℕ) = λ k. seek taking (v .0) (pair (v .1 .0) k) (take (v .1 .1 .1 .0) words) (zeros 8) in
-    let read : readLine (a .line .now) ≡ some (ask (asked (v .1 .1 .0))) = sym (c .before .before .before .before .before .before .before .before .before .before .before .before .before .before .before .before .before .read-line .ensures .is) ∙ ap (λ (l : Line). meant l words) (c .before .before .before .before .before .before .before .before .before .before .before .before .before .before .read4 .given .1) in
-    let key : toZ w32 (ofZ w32 (v .1 .1 .0)) ≡ v .1 .1 .0 = toZ-ofZ (record { sfits = c .before .before .before .before .before .before .before .before .before .before .before .before .before .known-told4 .given .1 .1 .0 .1 }) in
-    let replied = replied-as (c .before .before .before .before .before .before .before .before .before .before .open-first3 .last .1 .1 .0) _ _ (ap asked key) (c .before .before .before .before .reply-take .ensures) in
-    let whole : length (c .before .before .before .before .reply-take .last .0) ≡ 1809 = omega (arith, c .before .before .before .before .reply-take .kept .0, c .before .before .before .before .before .before .before .before .before .before .open-first3 .kept .1 .1 .0, c .before .before .before .before .before .before .before .before .before .before .before .before .before .before .before .before .before .before .before .before .before .before .before .before .pre .1 .words) in
-    asked-goes (a .s) (a .roster .now) (a .space .now) (a .line .now) (asked (v .1 .1 .0)) (c .before .before .before .before .before .before .before .before .before .before .before .before .before .before .before .before .before .before .before .before .before .before .before .before .pre .1) read _ _ _ _ _ (c .before .before .before .before .before .before .before .before .before .before .open-first3 .ensures) replied whole
+    let read : readLine (a .line .now) ≡ some (ask (meantCall (c .before .before .before .before .before .before .before .before .before .before .before .before .before .before .read2 .given .0 .0) words)) = sym (c .before .before .before .before .before .before .before .before .before .before .before .before .before .before .before .before .before .read-line .ensures .is) ∙ ap (λ (l : Line). meant l words) (c .before .before .before .before .before .before .before .before .before .before .before .before .before .before .read2 .given .1) in
+    let whole : length (c .before .before .before .before .reply .last .0) ≡ 1809 = omega (arith, c .before .before .before .before .reply .kept .0, c .before .before .before .before .before .before .before .before .before .before .open-first .kept .1 .1 .0, s .pre .1 .words) in
+    asked-goes (a .s) (a .roster .now) (a .space .now) (a .line .now) _ (s .pre .1) read _ _ _ _ _ (c .before .before .before .before .before .before .before .before .before .before .open-first .ensures) (c .before .before .before .before .reply .ensures) whole
 
 pub step-line-spec : {M : Type 1} → statement M
 step-line-spec =
@@ -197,31 +121,12 @@ step-line-spec =
     give-requires
     enum-known-read-2
     open-first-requires
-    array-share-prefix-words
-    slice-aggregate-fields
-    reply-put-requires
-    enum-known-read-3
-    open-first-requires-2
-    array-share-prefix-words-2
-    slice-aggregate-reply-read
-    reply-read-requires
-    enum-known-read-4
-    open-first-requires-3
-    array-share-prefix-words-3
-    slice-aggregate-reply-take
-    reply-take-requires
+    slice-aggregate-reply
+    reply-requires
     returns
     same-length
     returns-2
     same-length-2
     same-length-3
     same-length-4
-    returns-3
-    same-length-5
-    same-length-6
-    same-length-7
-    returns-4
-    same-length-8
-    same-length-9
-    same-length-10
-    returns-5)
+    returns-3)

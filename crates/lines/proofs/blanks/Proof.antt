@@ -1,0 +1,49 @@
+-- At byte i the blanks so far and those that are left make up the blanks of the line.
+use mathlib.Core.Path.{_≡_}
+use mathlib.Core.Logic.{⊎-elim}
+use mathlib.Core.List.{List}
+use Prim.Native.Nat.{ℕ, _+_, _-_, _≤_}
+use native.Mathlib.Omega.{arith}
+use borrow.Author.Needs.{needs}
+use lib.ListN.{length, drop}
+use Rattle.lines.specs.Lines as lines
+use Rattle.lines.proofs.Items.{blank-counted, other-passed, no-more-blanks}
+use Rattle.lines.proofs.blanks.Statement.{statement}
+use Rattle.lines.proofs.blanks.Tie as tie
+
+abbrev Inv-loop : tie.InvT-loop
+Inv-loop line n₀ i₀ n i = (i ≤ length line) × (n ≤ i) × (n + lines.blanks (drop i line) ≡ lines.blanks line)
+
+abbrev μ-loop : tie.MeasureT-loop
+μ-loop line n₀ i₀ n i = length line - i
+
+loop-holds : tie.Need-loop-holds Inv-loop μ-loop
+loop-holds c = search needs
+
+shared-slice-read-if1 : tie.Need-shared-slice-read-if1 Inv-loop μ-loop
+shared-slice-read-if1 c = search needs
+
+add-n : tie.Need-add-n Inv-loop μ-loop
+add-n c = search needs
+
+add-i : tie.Need-add-i Inv-loop μ-loop
+add-i c = search needs
+
+loop-less : tie.Need-loop-less Inv-loop μ-loop
+loop-less c = search needs
+
+loop-again : tie.Need-loop-again Inv-loop μ-loop
+loop-again c =
+    let line : List ℕ = c .before .before .before .before .args .line .now in
+    let i : ℕ = c .before .before .before .loop .i in
+    let l = c .before .before .loop-test .taken in
+    ⊎-elim
+    (λ w. (search needs, search needs, omega (arith, blank-counted line i l (w .0 .taken))))
+    (λ w. (search needs, search needs, omega (arith, other-passed line i l (w .0 .left))))
+    (c .if1 .came)
+
+returns : tie.Need-returns Inv-loop μ-loop
+returns c = omega (arith, no-more-blanks (c .before .before .args .line .now) (c .before .loop .i) (c .loop-test .left))
+
+pub blanks-spec : {M : Type 1} → statement M
+blanks-spec = tie.close (tie.spec Inv-loop μ-loop loop-holds shared-slice-read-if1 add-n add-i loop-less loop-again returns)

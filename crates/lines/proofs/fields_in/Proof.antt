@@ -1,0 +1,39 @@
+-- The part of the line is its item.
+use Rattle.lines.proofs.Readers.{fields-read}
+use borrow.Author.Needs.{needs}
+use Rattle.lines.proofs.fields_in.Statement.{statement}
+use Rattle.lines.proofs.fields_in.Tie as tie
+
+item-requires : tie.Need-item-requires
+item-requires c κs = search needs
+
+sub-read-fields : tie.Need-sub-read-fields
+sub-read-fields c = search needs
+
+part-read-fields-start : tie.Need-part-read-fields-start
+part-read-fields-start c = search needs
+
+part-read-fields-end : tie.Need-part-read-fields-end
+part-read-fields-end c = search needs
+
+read-fields-requires : tie.Need-read-fields-requires
+read-fields-requires c κs = search needs
+
+same-length : tie.Need-same-length
+same-length c = search needs
+
+returns : tie.Need-returns
+returns c =
+    rw (c .before .before .read-fields .ensures .1, ← (c .before .before .before .before .before .item .ensures .is)) (fields-read _ _ _ (c .before .before .read-fields .ensures .0))
+
+pub fields-in-spec : {M : Type 1} → statement M
+fields-in-spec =
+    tie.close
+    (tie.spec
+    item-requires
+    sub-read-fields
+    part-read-fields-start
+    part-read-fields-end
+    read-fields-requires
+    same-length
+    returns)

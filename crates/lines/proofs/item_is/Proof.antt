@@ -1,0 +1,30 @@
+-- The part of the line is its item.
+use mathlib.Core.Path.{ap, _∙_}
+use mathlib.Core.List.{List}
+use Prim.Native.Nat.{ℕ}
+use Rattle.lines.specs.Lines.{same}
+use borrow.Author.Needs.{needs}
+use Rattle.lines.proofs.item_is.Statement.{statement}
+use Rattle.lines.proofs.item_is.Tie as tie
+
+item-requires : tie.Need-item-requires
+item-requires c κs = search needs
+
+sub-same : tie.Need-sub-same
+sub-same c = search needs
+
+part-same-start : tie.Need-part-same-start
+part-same-start c = search needs
+
+part-same-end : tie.Need-part-same-end
+part-same-end c = search needs
+
+same-requires : tie.Need-same-requires
+same-requires c κs = search needs
+
+returns : tie.Need-returns
+returns c = c .same .ensures ∙ ap (λ (t : List ℕ). same t (c .before .before .before .before .before .args .word .now)) (c .before .before .item .ensures .is)
+
+pub item-is-spec : {M : Type 1} → statement M
+item-is-spec =
+    tie.close (tie.spec item-requires sub-same part-same-start part-same-end same-requires returns)

@@ -1,0 +1,50 @@
+-- By whether the item is a number, and by its range.
+use mathlib.Core.Path.{_≡_, sym, _∙_}
+use mathlib.Core.Option.{some}
+use borrow.Author.Tests.{le-leb, lt-leb}
+use Rattle.text.specs.Numbers.{unsigned}
+use Rattle.text.proofs.Digits.{unreadable, readable}
+use Rattle.lines.specs.Lines.{item}
+use borrow.Author.Needs.{needs}
+use Rattle.lines.proofs.partition_gift.Statement.{statement}
+use Rattle.lines.proofs.partition_gift.Tie as tie
+
+partition-read : (c : tie.After-partition) → unsigned (item (c .before .before .before .before .args .i) (c .before .before .before .before .args .line .now)) ≡ some (c .partition .given .0 .0)
+partition-read c = readable _ _ (sym (c .partition .given .1) ∙ c .before .before .number-in .ensures)
+
+number-in-requires : tie.Need-number-in-requires
+number-in-requires c κs = search needs
+
+enum-known-partition : tie.Need-enum-known-partition
+enum-known-partition c = search needs
+
+enum-told : tie.Need-enum-told
+enum-told c = search needs
+
+left-out-requires : tie.Need-left-out-requires
+left-out-requires c κs = search needs
+
+returns : tie.Need-returns
+returns c = rw (unreadable _ (sym (c .before .enum-told .given .1) ∙ c .before .before .before .number-in .ensures)) (c .left-out .ensures)
+
+cast-t6 : tie.Need-cast-t6
+cast-t6 c = search needs
+
+returns-2 : tie.Need-returns-2
+returns-2 c = rw (partition-read (c .before .before)) (rw (le-leb _ 63 (c .if1 .taken)))
+
+returns-3 : tie.Need-returns-3
+returns-3 c = rw (partition-read (c .before .before)) (rw (lt-leb _ 63 (c .if1 .left)))
+
+pub partition-gift-spec : {M : Type 1} → statement M
+partition-gift-spec =
+    tie.close
+    (tie.spec
+    number-in-requires
+    enum-known-partition
+    enum-told
+    left-out-requires
+    returns
+    cast-t6
+    returns-2
+    returns-3)
