@@ -3,7 +3,7 @@ use Prim.Native.Nat.{ℕ, zero, suc, _+_, _-_, _*_, _/_, _%_, _^_, _≤_, _<_}
 use mathlib.Core.Path.{_≡_}
 use mathlib.Core.Logic.{_⊎_, inl, inr}
 use mathlib.Core.Bool.{Bool, true, false, cond}
-use mathlib.Core.List.{List, [], _∷_}
+use mathlib.Core.List.{List, [], _∷_, _++_}
 use native.Mathlib.Nat.{pow-succ'}
 use native.Mathlib.Omega.{arith}
 use borrow.Author.Tests.{ltb-true, ltb-false}
@@ -60,18 +60,16 @@ pub field-short : (w : ℕ) → length (renderField w) ≤ 11
 unfolding renderField field
 field-short w = kind-short (w / 4294967296) (w % 4294967296) (omega arith)
 
+-- a field before the rest of the list
+joined-short : (w : ℕ) (ws : List ℕ) → length (renderMore ws) ≤ 12 * length ws → length (renderField w ++ renderMore ws) ≤ 12 * length ws + 11
+joined-short w ws h = let m = field-short w in let s = length-append (renderField w) (renderMore ws) in omega arith
+
 more-short : (ws : List ℕ) → length (renderMore ws) ≤ 12 * length ws
 more-short [] = omega arith
-more-short (w ∷ ws) =
-    let l = more-short ws in
-    let m = field-short w in
-    let s = length-append (renderField w) (renderMore ws) in omega arith
+more-short (w ∷ ws) = let l = joined-short w ws (more-short ws) in omega arith
 
 -- eleven bytes a field and a comma between two; one byte for none
 pub fields-short : (fs : List ℕ) → length (renderFields fs) ≤ 12 * length fs + 1
 unfolding renderFields
 fields-short [] = omega arith
-fields-short (w ∷ ws) =
-    let l = more-short ws in
-    let m = field-short w in
-    let s = length-append (renderField w) (renderMore ws) in omega arith
+fields-short (w ∷ ws) = let l = joined-short w ws (more-short ws) in omega arith

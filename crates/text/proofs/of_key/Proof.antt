@@ -1,5 +1,5 @@
 -- By whether there is a key, and whether it is in range.
-use mathlib.Core.Path.{sym, ap, _∙_}
+use mathlib.Core.Path.{_≡_, sym, ap, _∙_}
 use native.Mathlib.Omega.{arith}
 use borrow.Author.Needs.{needs}
 use borrow.Author.Tests.{not-true, not-false}
@@ -15,6 +15,10 @@ use Rattle.text.proofs.FieldReading.{key-out, key-in}
 use Rattle.text.proofs.of_key.Statement.{statement}
 use Rattle.text.proofs.of_key.Tie as tie
 
+-- the key read back from its bits
+key-kept : (c : tie.After-known-told) → toZ w32 (ofZ w32 (c .before .key .given .0 .0)) ≡ (c .before .key .given .0 .0)
+key-kept c = toZ-ofZ (record { sfits = c .known-told .given .0 .1 })
+
 enum-known-key : tie.Need-enum-known-key
 enum-known-key c = search needs
 
@@ -29,9 +33,7 @@ key-in-range-requires : tie.Need-key-in-range-requires
 key-in-range-requires c κs = search needs
 
 returns-2 : tie.Need-returns-2
-returns-2 c =
-    let fit = toZ-ofZ {w = w32} {z = c .before .before .before .key .given .0 .0} (record { sfits = c .before .before .known-told .given .0 .1 }) in
-    key-out _ _ (c .before .before .before .key .given .1) (ap keyInRange (sym fit) ∙ sym (c .before .key-in-range .ensures) ∙ not-true _ (c .if1 .taken))
+returns-2 c = key-out _ _ (c .before .before .before .key .given .1) (ap keyInRange (sym (key-kept (c .before .before))) ∙ sym (c .before .key-in-range .ensures) ∙ not-true _ (c .if1 .taken))
 
 stored-key-requires : tie.Need-stored-key-requires
 stored-key-requires c κs = sym (c .before .key-in-range .ensures) ∙ not-false _ (c .if1 .left)
@@ -43,9 +45,8 @@ add-t6 c =
 
 returns-3 : tie.Need-returns-3
 returns-3 c =
-    let fit = toZ-ofZ {w = w32} {z = c .before .before .before .before .key .given .0 .0} (record { sfits = c .before .before .before .known-told .given .0 .1 }) in
-    key-in _ _ (c .before .before .before .before .key .given .1) (ap keyInRange (sym fit) ∙ sym (c .before .before .key-in-range .ensures) ∙ not-false _ (c .before .if1 .left)) _
-    (c .stored-key .ensures ∙ ap stored fit)
+    key-in _ _ (c .before .before .before .before .key .given .1) (ap keyInRange (sym (key-kept (c .before .before .before))) ∙ sym (c .before .before .key-in-range .ensures) ∙ not-false _ (c .before .if1 .left)) _
+    (c .stored-key .ensures ∙ ap stored (key-kept (c .before .before .before)))
 
 pub of-key-spec : {M : Type 1} → statement M
 of-key-spec =
