@@ -1,7 +1,7 @@
 //! One call with all its arguments, so that it can be made twice and printed.
 
 use crate::space::Space;
-use reference::Pair;
+use reference::{Operation, Pair};
 
 /// The kinds of calls.
 #[derive(Clone, Copy, Debug, PartialEq, Eq)]
@@ -90,8 +90,22 @@ impl Call {
             Call::Put {
                 party, read, take, ..
             } => system.put(space, *party, *read, *take, input),
-            Call::Read(query) => system.read(space, query.party, query.pair, input, result),
-            Call::Take(query) => system.take(space, query.party, query.pair, input, result),
+            Call::Read(query) => system.find(
+                Operation::Read,
+                space,
+                query.party,
+                query.pair,
+                input,
+                result,
+            ),
+            Call::Take(query) => system.find(
+                Operation::Take,
+                space,
+                query.party,
+                query.pair,
+                input,
+                result,
+            ),
         }
     }
 }

@@ -15,24 +15,9 @@ const PATIENCE: Duration = Duration::from_secs(20);
 /// No right output comes near this.
 const LONGEST_OUTPUT: u64 = 4 << 20;
 
-const EXAMPLE_INPUT: &str = "\
-call party rpart rkey tpart tkey fields
-give 0 5 4 - - -
-give 1 5 -4 - - -
-put 0 5 4 5 4 m7,m120
-read 1 5 -4 - - m7,*
-take 0 5 -4 - - *,*
-take 1 5 -4 - - *,*
-read 1 5 -4 - - *,*
-";
-const EXAMPLE_OUTPUT: &str = "\
-line answer fields
-1 done -
-2 found m7,m120
-3 no7 -
-4 found m7,m120
-5 none -
-";
+/// The rules' own example.
+const EXAMPLE_INPUT: &str = include_str!("../../../crates/console/stdin");
+const EXAMPLE_OUTPUT: &str = include_str!("../../../crates/console/stdout");
 
 /// What an output line can say; each must come up.
 const SAYINGS: [&str; 14] = [

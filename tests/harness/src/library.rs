@@ -1,7 +1,7 @@
 //! The linked library, called through the declarations of `space.h`.
 
 use crate::space::Space;
-use reference::Pair;
+use reference::{Operation, Pair};
 
 extern "C" {
     fn space_open(space: *mut u64, space_len: usize, roster: *const u64, roster_len: usize) -> u32;
@@ -83,39 +83,21 @@ impl Space for Library {
         }
     }
 
-    fn read(
+    fn find(
         &mut self,
+        operation: Operation,
         space: &mut [u64],
         party: u32,
         pair: Pair,
         fields: &[u64],
         result: &mut [u64],
     ) -> u32 {
+        let call = match operation {
+            Operation::Read => space_read,
+            Operation::Take => space_take,
+        };
         unsafe {
-            space_read(
-                space.as_mut_ptr(),
-                space.len(),
-                party,
-                pair.partition,
-                pair.key,
-                fields.as_ptr(),
-                fields.len(),
-                result.as_mut_ptr(),
-                result.len(),
-            )
-        }
-    }
-
-    fn take(
-        &mut self,
-        space: &mut [u64],
-        party: u32,
-        pair: Pair,
-        fields: &[u64],
-        result: &mut [u64],
-    ) -> u32 {
-        unsafe {
-            space_take(
+            call(
                 space.as_mut_ptr(),
                 space.len(),
                 party,

@@ -1,6 +1,6 @@
 //! What is tested: anything with the four calls, answering as the C interface does.
 
-use reference::{Pair, Reference};
+use reference::{Operation, Pair, Reference};
 
 /// The four calls. An answer is 0 for "done" and "none", 1 to 8 for "found" with that count, and
 /// 100 plus its number for a refusal.
@@ -10,17 +10,10 @@ pub trait Space {
     fn put(&mut self, space: &mut [u64], party: u32, read: Pair, take: Pair, fields: &[u64])
         -> u32;
 
-    fn read(
+    /// Reads or takes.
+    fn find(
         &mut self,
-        space: &mut [u64],
-        party: u32,
-        pair: Pair,
-        fields: &[u64],
-        result: &mut [u64],
-    ) -> u32;
-
-    fn take(
-        &mut self,
+        operation: Operation,
         space: &mut [u64],
         party: u32,
         pair: Pair,
@@ -45,25 +38,15 @@ impl Space for Reference {
         Reference::put(self, space, party, read, take, fields).code()
     }
 
-    fn read(
+    fn find(
         &mut self,
+        operation: Operation,
         space: &mut [u64],
         party: u32,
         pair: Pair,
         fields: &[u64],
         result: &mut [u64],
     ) -> u32 {
-        Reference::read(self, space, party, pair, fields, result).code()
-    }
-
-    fn take(
-        &mut self,
-        space: &mut [u64],
-        party: u32,
-        pair: Pair,
-        fields: &[u64],
-        result: &mut [u64],
-    ) -> u32 {
-        Reference::take(self, space, party, pair, fields, result).code()
+        Reference::find(self, operation, space, party, pair, fields, result).code()
     }
 }

@@ -12,9 +12,9 @@ use crate::table::{
 };
 use crate::variant::Variant;
 
-/// Which of an entry's pairs a search looks at.
-#[derive(Clone, Copy, PartialEq, Eq)]
-enum Operation {
+/// Whether an entry is only read or also taken.
+#[derive(Clone, Copy, Debug, PartialEq, Eq)]
+pub enum Operation {
     Read,
     Take,
 }
@@ -82,31 +82,8 @@ impl Reference {
         Answer::Done
     }
 
-    /// Finds the oldest match for reading.
-    pub fn read(
-        &mut self,
-        space: &mut [u64],
-        party: u32,
-        pair: Pair,
-        fields: &[u64],
-        result: &mut [u64],
-    ) -> Answer {
-        self.find(Operation::Read, space, party, pair, fields, result)
-    }
-
-    /// Finds the oldest match for taking and removes it.
-    pub fn take(
-        &mut self,
-        space: &mut [u64],
-        party: u32,
-        pair: Pair,
-        fields: &[u64],
-        result: &mut [u64],
-    ) -> Answer {
-        self.find(Operation::Take, space, party, pair, fields, result)
-    }
-
-    fn find(
+    /// Reads or takes: finds the oldest match, and removes it if it is taken.
+    pub fn find(
         &mut self,
         operation: Operation,
         space: &mut [u64],
@@ -140,6 +117,20 @@ impl Reference {
         Answer::Found(found.len())
     }
 
+    /// The refusals that come first for every call but an opening.
+    fn first_refusal(&self, space: &[u64], party: u32, fields: &[u64]) -> Option<u32> {
+        if !self.sound(space) {
+            return Some(1);
+        }
+        if party as usize >= PARTIES {
+            return Some(2);
+        }
+        if fields.is_empty() || fields.len() > MOST_FIELDS {
+            return Some(3);
+        }
+        None
+    }
+
     /// The refusals of a put, in the order of the rules' table.
     fn put_refusal(
         &self,
@@ -149,14 +140,8 @@ impl Reference {
         take: Pair,
         fields: &[u64],
     ) -> Option<u32> {
-        if !self.sound(space) {
-            return Some(1);
-        }
-        if party as usize >= PARTIES {
-            return Some(2);
-        }
-        if fields.is_empty() || fields.len() > MOST_FIELDS {
-            return Some(3);
+        if let Some(number) = self.first_refusal(space, party, fields) {
+            return Some(number);
         }
         if !read.in_range() || !take.in_range() {
             return Some(4);
@@ -186,14 +171,8 @@ impl Reference {
         fields: &[u64],
         result_len: usize,
     ) -> Option<u32> {
-        if !self.sound(space) {
-            return Some(1);
-        }
-        if party as usize >= PARTIES {
-            return Some(2);
-        }
-        if fields.is_empty() || fields.len() > MOST_FIELDS {
-            return Some(3);
+        if let Some(number) = self.first_refusal(space, party, fields) {
+            return Some(number);
         }
         if !pair.in_range() {
             return Some(4);

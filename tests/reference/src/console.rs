@@ -1,7 +1,7 @@
 //! The console's text to text: the whole output as a function of the whole input.
 
 use crate::answer::Answer;
-use crate::calls::Reference;
+use crate::calls::{Operation, Reference};
 use crate::names::{
     key_bit, key_in_range, partition_bit, Field, Pair, LAST_PARTITION, MOST_FIELDS, PARTIES,
 };
@@ -68,12 +68,8 @@ enum Line {
         take: Pair,
         fields: Vec<u64>,
     },
-    Read {
-        party: u32,
-        pair: Pair,
-        fields: Vec<u64>,
-    },
-    Take {
+    Find {
+        operation: Operation,
         party: u32,
         pair: Pair,
         fields: Vec<u64>,
@@ -155,16 +151,12 @@ impl Session {
                 take,
                 fields,
             } => reference.put(space, *party, *read, *take, fields),
-            Line::Read {
+            Line::Find {
+                operation,
                 party,
                 pair,
                 fields,
-            } => reference.read(space, *party, *pair, fields, result),
-            Line::Take {
-                party,
-                pair,
-                fields,
-            } => reference.take(space, *party, *pair, fields, result),
+            } => reference.find(*operation, space, *party, *pair, fields, result),
         }
     }
 }
@@ -186,27 +178,21 @@ fn parse_line(text: &[u8]) -> Option<Line> {
             take: parse_pair(tpart, tkey)?,
             fields: parse_fields(fields)?,
         }),
-        b"read" | b"take" => {
-            all_absent(&[tpart, tkey])?;
-            let party = parse_number(party)?;
-            let pair = parse_pair(rpart, rkey)?;
-            let fields = parse_fields(fields)?;
-            Some(if call == b"read" {
-                Line::Read {
-                    party,
-                    pair,
-                    fields,
-                }
-            } else {
-                Line::Take {
-                    party,
-                    pair,
-                    fields,
-                }
-            })
-        }
+        b"read" => parse_find(Operation::Read, &items),
+        b"take" => parse_find(Operation::Take, &items),
         _ => None,
     }
+}
+
+/// A read or a take names no take pair.
+fn parse_find(operation: Operation, items: &[&[u8]]) -> Option<Line> {
+    all_absent(&items[4..6])?;
+    Some(Line::Find {
+        operation,
+        party: parse_number(items[1])?,
+        pair: parse_pair(items[2], items[3])?,
+        fields: parse_fields(items[6])?,
+    })
 }
 
 fn is_absent(item: &[u8]) -> bool {

@@ -2,7 +2,7 @@
 
 use reference::names::{key_bit, partition_bit, stored_key};
 use reference::table::{KEYS, PARTITIONS, WORDS};
-use reference::{co_key, Answer, Field, Pair, Reference};
+use reference::{co_key, Answer, Field, Operation, Pair, Reference};
 
 const WILDCARD: u64 = 12_884_901_888;
 const DEFAULT: Pair = Pair {
@@ -34,17 +34,21 @@ fn put(space: &mut [u64], party: u32, pair: Pair, fields: &[u64]) -> Answer {
     Reference::correct().put(space, party, pair, pair, fields)
 }
 
-/// A take's answer and the result words, which start as 99.
-fn take(space: &mut [u64], party: u32, pair: Pair, fields: &[u64]) -> (Answer, [u64; 8]) {
+type Found = (Answer, [u64; 8]);
+
+/// The answer and the result words, which start as 99.
+fn find(op: Operation, space: &mut [u64], party: u32, pair: Pair, fields: &[u64]) -> Found {
     let mut result = [99; 8];
-    let answer = Reference::correct().take(space, party, pair, fields, &mut result);
+    let answer = Reference::correct().find(op, space, party, pair, fields, &mut result);
     (answer, result)
 }
 
-fn read(space: &mut [u64], party: u32, pair: Pair, fields: &[u64]) -> (Answer, [u64; 8]) {
-    let mut result = [99; 8];
-    let answer = Reference::correct().read(space, party, pair, fields, &mut result);
-    (answer, result)
+fn take(space: &mut [u64], party: u32, pair: Pair, fields: &[u64]) -> Found {
+    find(Operation::Take, space, party, pair, fields)
+}
+
+fn read(space: &mut [u64], party: u32, pair: Pair, fields: &[u64]) -> Found {
+    find(Operation::Read, space, party, pair, fields)
 }
 
 #[test]
@@ -125,7 +129,7 @@ fn examples_of_the_refusals() {
     assert_eq!(put(&mut space, 0, low_key, &[1]), Answer::Refused(4));
     assert_eq!(put(&mut space, 0, DEFAULT, &[WILDCARD]), Answer::Refused(5));
     assert_eq!(
-        reference.read(&mut space, 0, DEFAULT, &[1, 2], &mut [99]),
+        reference.find(Operation::Read, &mut space, 0, DEFAULT, &[1, 2], &mut [99]),
         Answer::Refused(6)
     );
     assert_eq!(read(&mut space, 0, THERE, &[1]).0, Answer::Refused(7));

@@ -19,24 +19,8 @@ fn after_names(lines: &str) -> String {
 
 #[test]
 fn example_of_the_rules() {
-    let input = "\
-call party rpart rkey tpart tkey fields
-give 0 5 4 - - -
-give 1 5 -4 - - -
-put 0 5 4 5 4 m7,m120
-read 1 5 -4 - - m7,*
-take 0 5 -4 - - *,*
-take 1 5 -4 - - *,*
-read 1 5 -4 - - *,*
-";
-    let output = "\
-line answer fields
-1 done -
-2 found m7,m120
-3 no7 -
-4 found m7,m120
-5 none -
-";
+    let input = include_str!("../../../crates/console/stdin");
+    let output = include_str!("../../../crates/console/stdout");
     assert_eq!(whole(input), output);
 }
 
