@@ -26,7 +26,7 @@ fn close_up(part: &mut [u64])
     clear(&mut part[n..]);
 }
 
-pub fn clear(part: &mut [u64])
+fn clear(part: &mut [u64])
     ensures { λ _. ⌜ now (part .exit) ≡ zeros (length (now (part .entry))) ⌝ }
 {
     let mut i = 0;

@@ -20,9 +20,9 @@ ghost use Rattle.lines.specs.Parts.{PartIs};
 ghost use Rattle.lines.specs.Read.{noTakePair, meantGift, meantPair, FieldsAre, LineIs};
 
 // A part of a line, from its first byte to the one past its last.
-pub struct Part {
-    pub start: usize,
-    pub end: usize,
+struct Part {
+    start: usize,
+    end: usize,
 }
 
 // T12: what a gift has of a partition or of a stored key.
@@ -31,13 +31,13 @@ pub enum Gift {
     Name(u64),
 }
 
-pub enum ReadGift {
+enum ReadGift {
     Value(Gift),
     Unreadable,
 }
 
 // A partition and a key.
-pub enum ReadPair {
+enum ReadPair {
     Value(u32, i32),
     Unreadable,
 }
@@ -59,7 +59,7 @@ pub enum Line {
 }
 
 // T15
-pub fn blanks(line: &[u8]) -> usize
+fn blanks(line: &[u8]) -> usize
     ensures { λ r. ⌜ r ≡ blanks (now (line .entry)) ⌝ }
 {
     let mut n: usize = 0;
@@ -74,7 +74,7 @@ pub fn blanks(line: &[u8]) -> usize
 }
 
 // T15: left at the blank that ends the item; past the last item there is none.
-pub fn item(line: &[u8], i: usize) -> Part
+fn item(line: &[u8], i: usize) -> Part
     ensures { λ r. ⌜ PartIs (item i (now (line .entry))) (now (line .entry)) (r .start) (r .end) ⌝ }
 {
     let mut before = i;

@@ -105,6 +105,7 @@ fn first_tests(space: &[u64], party: u32, fields: &[u64]) -> Begun
     Begun::Live(live)
 }
 
+// The verdict where the first tests refuse.
 fn refusal(begun: Begun) -> Verdict
     ensures { λ r. ⌜ r ≡ refusalOf begun ⌝ }
 {

@@ -24,7 +24,7 @@ pub struct Session {
 }
 
 // T20: the line is unreadable, or the session goes on and that many bytes are printed.
-pub enum Step {
+enum Step {
     Unreadable,
     Next(Session, usize),
 }
@@ -102,13 +102,7 @@ pub fn take_turn(
 }
 
 // T20
-pub fn step_line(
-    s: Session,
-    line: &[u8],
-    roster: &mut [u64],
-    space: &mut [u64],
-    out: &mut [u8],
-) -> Step
+fn step_line(s: Session, line: &[u8], roster: &mut [u64], space: &mut [u64], out: &mut [u8]) -> Step
     requires { ⌜ (s .calls < 1000000) × Ready s (now roster) (now space) × (256 ≤ length (now out)) ⌝ }
     ensures { λ r. ⌜ StepIs r s (now (line .entry)) (now (roster .entry)) (now (roster .exit)) (now (space .entry)) (now (space .exit)) (now (out .entry)) (now (out .exit)) ⌝ }
 {

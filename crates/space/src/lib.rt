@@ -21,7 +21,7 @@ pub enum Answer {
 }
 
 // What a read or take finds: the place of the oldest match, none, or a refusal.
-pub enum Sought {
+enum Sought {
     At(usize),
     Nothing,
     Refused(u32),

@@ -165,7 +165,7 @@ pub fn part_end(text: &[u8], at: usize, sep: u8) -> usize
 }
 
 // T8
-pub fn is_dash(text: &[u8]) -> bool
+fn is_dash(text: &[u8]) -> bool
     ensures { λ r. ⌜ r ≡ isDash (now (text .entry)) ⌝ }
 {
     if text.len() == 1 {

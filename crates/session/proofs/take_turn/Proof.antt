@@ -10,7 +10,7 @@ use Rattle.text.specs.Fields.{before, beyond, parts}
 use Rattle.text.specs.Written.{Written}
 use Rattle.text.proofs.Parts.{end-low, end-high, part-is, last-part, further-parts}
 use Rattle.text.proofs.Placing.{written-none}
-use Rattle.session.specs.Transcript.{lineStep, unreadable}
+use Rattle.session.specs.Transcript.{lineStep, unreadable, atEnd, transcript}
 use Rattle.session.specs.Steps.{phaseOf, StepIs}
 use Rattle.session.specs.declared.Step.{Step}
 use Rattle.session.proofs.Bounds.{unreadable-short}
@@ -25,6 +25,14 @@ step-says c r =
     let a = c .before .before .before .before .before .before .before .before .before .before .before .args in
     let line = take (c .before .before .before .before .before .before .part-end .result - a .from .at) (drop (a .from .at) (a .input .now)) in
     StepIs r (a .s) line (a .roster .now) (c .step-line .last .1 .1 .0) (a .space .now) (c .step-line .last .1 .1 .1 .0) (a .out .now) (c .step-line .last .1 .1 .1 .1 .0)
+
+last-line : (c : tie.Then1)
+    → transcript (phaseOf (c .before .before .before .before .before .before .args .s) (c .before .before .before .before .before .before .args .roster .now) (c .before .before .before .before .before .before .args .space .now)) (c .before .before .before .before .before .before .args .from .number) (parts 10 (drop (c .before .before .before .before .before .before .args .from .at) (c .before .before .before .before .before .before .args .input .now)))
+    ≡ atEnd (c .before .before .before .before .before .before .args .from .number) (before 10 (drop (c .before .before .before .before .before .before .args .from .at) (c .before .before .before .before .before .before .args .input .now)))
+last-line c =
+    let a = c .before .before .before .before .before .before .args in
+    at-end (phaseOf (a .s) (a .roster .now) (a .space .now)) (a .from .number) (drop (a .from .at) (a .input .now))
+    (last-part 10 (a .input .now) (a .from .at) _ (c .before .before .before .before .before .before .pre .0) (c .before .part-end .ensures) (c .if1 .taken))
 
 line-is : (c : tie.Else1)
     → take (c .before .part-end .result - c .before .before .before .before .before .before .args .from .at) (drop (c .before .before .before .before .before .before .args .from .at) (c .before .before .before .before .before .before .args .input .now)) ≡ before 10 (drop (c .before .before .before .before .before .before .args .from .at) (c .before .before .before .before .before .before .args .input .now))
@@ -41,9 +49,8 @@ returns : tie.Need-returns
 returns c =
     let a = c .before .before .before .before .before .before .before .args in
     let t = drop (a .from .at) (a .input .now) in
-    let e = c .before .before .part-end .ensures in
-    let none : length (before 10 t) ≡ 0 = omega (arith, e, c .if2 .taken) in
-    (record { text = []; adds = at-end _ _ t (last-part 10 (a .input .now) (a .from .at) _ (c .before .before .before .before .before .before .before .pre .0) e (c .before .if1 .taken)) ∙ ended (a .from .number) (before 10 t) none; written = written-none _ 0 }, (tt, (refl, refl)))
+    let none : length (before 10 t) ≡ 0 = omega (arith, c .before .before .part-end .ensures, c .if2 .taken) in
+    (record { text = []; adds = last-line (c .before) ∙ ended (a .from .number) (before 10 t) none; written = written-none _ 0 }, (tt, (refl, refl)))
 
 render-unreadable-requires : tie.Need-render-unreadable-requires
 render-unreadable-requires c κs = omega (arith, unreadable-short (c .before .before .before .before .before .before .before .before .args .from .number) (omega (arith, c .before .before .before .before .before .before .before .before .pre .1)), c .before .before .before .before .before .before .before .before .pre .4)
@@ -55,9 +62,8 @@ returns-2 : tie.Need-returns-2
 returns-2 c =
     let a = c .before .before .before .before .before .before .before .before .before .before .before .args in
     let t = drop (a .from .at) (a .input .now) in
-    let e = c .before .before .before .before .before .before .part-end .ensures in
-    let some : (length (before 10 t) ≡ 0 → ⊥) = λ z. c .before .before .before .before .if2 .left (omega (arith, e)) in
-    (record { text = unreadable (a .from .number); adds = at-end _ _ t (last-part 10 (a .input .now) (a .from .at) _ (c .before .before .before .before .before .before .before .before .before .before .before .pre .0) e (c .before .before .before .before .before .if1 .taken)) ∙ unended (a .from .number) (before 10 t) some ∙ sym (append-nil _); written = c .before .before .render-unreadable .ensures }, (tt, (refl, refl)))
+    let some : (length (before 10 t) ≡ 0 → ⊥) = λ z. c .before .before .before .before .if2 .left (omega (arith, c .before .before .before .before .before .before .part-end .ensures)) in
+    (record { text = unreadable (a .from .number); adds = last-line (c .before .before .before .before .before) ∙ unended (a .from .number) (before 10 t) some ∙ sym (append-nil _); written = c .before .before .render-unreadable .ensures }, (tt, (refl, refl)))
 
 sub-step-line : tie.Need-sub-step-line
 sub-step-line c = search needs

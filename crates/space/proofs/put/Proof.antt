@@ -7,6 +7,7 @@ use mathlib.Core.Option.{none}
 use lib.IntN.{ℤ}
 use mir.Facts.{toZ-ofZ}
 use mir.Syntax.{w32}
+use mir.Val.{toZ, ofZ}
 use Rattle.rules.specs.Names.{keyInRange, stored}
 use Rattle.rules.specs.Matching.{pair}
 use Rattle.rules.specs.State.{withEntries}
@@ -30,11 +31,18 @@ tableOf s r t =
 whole : tie.Start → Table
 whole s = tableOf s (s .args .rkey) (s .args .tkey)
 
+-- the keys as the machine reads them back
+rkey-kept : (s : tie.Start) → toZ w32 (ofZ w32 (s .args .rkey)) ≡ s .args .rkey
+rkey-kept s = toZ-ofZ (s .fits .rkey)
+
+tkey-kept : (s : tie.Start) → toZ w32 (ofZ w32 (s .args .tkey)) ≡ s .args .tkey
+tkey-kept s = toZ-ofZ (s .fits .tkey)
+
 verdict-is : (c : tie.After-of-put) → c .of-put .result ≡ verdict (whole (c .before .before .before .before))
 unfolding whole tableOf
 verdict-is c =
     let s = c .before .before .before .before in
-    c .of-put .ensures ∙ ap₂ (λ (r t : ℤ). verdict (tableOf s r t)) (toZ-ofZ {w = w32} (s .fits .rkey)) (toZ-ofZ {w = w32} (s .fits .tkey))
+    c .of-put .ensures ∙ ap₂ (λ (r t : ℤ). verdict (tableOf s r t)) (rkey-kept s) (tkey-kept s)
 
 no-refusal : (c : tie.After-enum-told) → firstThatApplies (whole (c .before .before .before .before .before .before)) ≡ none
 no-refusal c = verdict-passed (whole (c .before .before .before .before .before .before)) (sym (c .enum-told .given .1) ∙ verdict-is (c .before .before))
@@ -61,10 +69,10 @@ enum-told : tie.Need-enum-told
 enum-told c = search needs
 
 stored-key-requires : tie.Need-stored-key-requires
-stored-key-requires c κs = ap keyInRange (toZ-ofZ {w = w32} (c .before .before .before .before .before .before .fits .rkey)) ∙ passed c .readRange
+stored-key-requires c κs = ap keyInRange (rkey-kept (c .before .before .before .before .before .before)) ∙ passed c .readRange
 
 stored-key-requires-2 : tie.Need-stored-key-requires-2
-stored-key-requires-2 c κs = ap keyInRange (toZ-ofZ {w = w32} (c .before .before .before .before .before .before .before .fits .tkey)) ∙ passed (c .before) .takeRange
+stored-key-requires-2 c κs = ap keyInRange (tkey-kept (c .before .before .before .before .before .before .before)) ∙ passed (c .before) .takeRange
 
 add-row-requires : tie.Need-add-row-requires
 add-row-requires c κs = (passed (c .before .before .before) .isSound, passed (c .before .before .before) .room, passed (c .before .before .before) .few)
@@ -80,7 +88,7 @@ returns-2 c =
     let left : ℕ → ℕ → List ℕ =
     λ r t. encode (withEntries (decode (a .space .now) .entries ++ (entry (a .party) (a .rpart) r (a .tpart) t (a .fields .now) ∷ [])) (decode (a .space .now)))
     in
-    let keys = ap₂ left (c .before .before .before .before .before .stored-key .ensures ∙ ap stored (toZ-ofZ {w = w32} (s .fits .rkey))) (c .before .before .before .before .stored-key2 .ensures ∙ ap stored (toZ-ofZ {w = w32} (s .fits .tkey))) in
+    let keys = ap₂ left (c .before .before .before .before .before .stored-key .ensures ∙ ap stored (rkey-kept s)) (c .before .before .before .before .stored-key2 .ensures ∙ ap stored (tkey-kept s)) in
     ap (λ (ws : List ℕ). exit done ws []) (c .before .before .add-row .ensures ∙ keys) ∙ sym (passes-call _ _ (no-refusal (c .before .before .before .before .before .before)))
 
 pub put-spec : {M : Type 1} → statement M
