@@ -1,5 +1,3 @@
-pub mod Zero
-pub mod RowLaws
 pub mod HoldingLaws
 pub mod Counting
 pub mod Answers

@@ -2,72 +2,13 @@
 ghost use mathlib.Core.Path.{_≡_};
 ghost use Prim.Native.Nat.{_≤_};
 ghost use lib.ListN.{length, getD};
-ghost use Rattle.rules.specs.Lists.{all};
-ghost use Rattle.rules.specs.Fields.{putField};
-ghost use Rattle.rules.specs.Words.{zeros, decode, isZero, headOk, rowOk, holdingsOk};
+ghost use Rattle.rules.specs.Words.{zeros, decode, holdingsOk};
 ghost use Rattle.audit.specs.Audited.{audited, AfterRows};
 
 // Whether a space is sound and, if so, how many live entries the party has.
 pub enum Finding {
     Unsound,
     Sound(u64),
-}
-
-// Every word is 0; the bits are gathered, so that one comparison serves all.
-fn all_zero(part: &[u64]) -> bool
-    ensures { λ r. ⌜ r ≡ all isZero (now (part .entry)) ⌝ }
-{
-    let mut seen = 0;
-    let mut i = 0;
-    while i < part.len() {
-        seen = seen | part[i];
-        i += 1;
-    }
-    seen == 0
-}
-
-// F3: every field is one that a put may carry.
-pub fn put_fields(fields: &[u64]) -> bool
-    ensures { λ r. ⌜ r ≡ all putField (now (fields .entry)) ⌝ }
-{
-    let mut i = 0;
-    while i < fields.len() {
-        if !words::put_field(fields[i]) {
-            return false;
-        }
-        i += 1;
-    }
-    true
-}
-
-// S6: the six words before the fields.
-fn head_ok(row: &[u64]) -> bool
-    requires { ⌜ length (now row) ≡ 14 ⌝ }
-    ensures { λ r. ⌜ r ≡ headOk (now (row .entry)) ⌝ }
-{
-    let writer = row[0] <= 7;
-    let read_partition = row[1] <= 63;
-    let read_key = row[2] <= 62;
-    let take_partition = row[3] <= 63;
-    let take_key = row[4] <= 62;
-    let some = 1 <= row[5];
-    let few = row[5] <= 8;
-    writer & (read_partition & (read_key & (take_partition & (take_key & (some & few)))))
-}
-
-// S6, S7
-fn row_ok(row: &[u64]) -> bool
-    requires { ⌜ length (now row) ≡ 14 ⌝ }
-    ensures { λ r. ⌜ r ≡ rowOk (now (row .entry)) ⌝ }
-{
-    if !head_ok(row) {
-        return false;
-    }
-    let end = 6 + row[5] as usize;
-    if !put_fields(&row[6..end]) {
-        return false;
-    }
-    all_zero(&row[end..])
 }
 
 // S6 to S8 of n live rows; charges counts each writer's rows as they pass.
@@ -79,7 +20,7 @@ fn rows_ok(space: &[u64], n: usize, charges: &mut [u64]) -> bool
     while r < n {
         let at = 17 + 14 * r;
         let end = at + 14;
-        if !row_ok(&space[at..end]) {
+        if !rows::row_ok(&space[at..end]) {
             return false;
         }
         let writer = space[at] as usize;
@@ -133,7 +74,7 @@ pub fn audit(space: &[u64], party: u32) -> Finding
         return Finding::Unsound;
     }
     let rest = 17 + 14 * n;
-    if !all_zero(&space[rest..]) {
+    if !rows::all_zero(&space[rest..]) {
         return Finding::Unsound;
     }
     if 7 < party {

@@ -1,4 +1,2 @@
 pub mod Store
 pub mod Tails
-pub mod Holding
-pub mod Opening

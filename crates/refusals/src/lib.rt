@@ -46,7 +46,7 @@ pub fn of_put(
     if bad_read | bad_take {
         return Verdict::Refused(4);
     }
-    if !audit::put_fields(fields) {
+    if !rows::put_fields(fields) {
         return Verdict::Refused(5);
     }
     if !put_held(space, party, rpart, rkey, tpart, tkey, fields) {

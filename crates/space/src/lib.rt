@@ -37,7 +37,7 @@ pub fn open(space: &mut [u64], roster: &[u64]) -> Answer
     if refusals::bad_roster(roster) {
         return Answer::Refused(9);
     }
-    edits::fill(space, roster);
+    holdings::fill(space, roster);
     Answer::Done
 }
 
@@ -129,7 +129,7 @@ fn seek(
     };
     let n = fields.len();
     copy_out(space, row, n, result);
-    edits::hold_names(space, party as usize, &result[..n]);
+    holdings::hold_names(space, party as usize, &result[..n]);
     Sought::At(row)
 }
 

@@ -11,7 +11,7 @@ use Rattle.audit.proofs.audit.Statement.{statement}
 use Rattle.audit.proofs.audit.Tie as tie
 use Rattle.audit.proofs.audit.Reads as reads
 use Rattle.audit.proofs.audit.Lts as lts
-use Rattle.audit.proofs.all_zero.Reads as all-zero-reads
+use Rattle.rows.proofs.all_zero.Reads as all-zero-reads
 use Rattle.audit.proofs.holdings_ok.Reads as holdings-ok-reads
 use Rattle.audit.proofs.rows_ok.Reads as rows-ok-reads
 

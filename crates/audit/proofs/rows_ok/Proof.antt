@@ -8,13 +8,13 @@ use borrow.Author.Tests.{not-true, not-false}
 use lib.ListN.{length}
 use Rattle.rules.specs.Words.{rowOk}
 use Rattle.rules.proofs.Rows.{length-zeros}
-use Rattle.audit.proofs.RowLaws.{length-rest, length-row, row-lent}
+use Rattle.rows.proofs.RowLaws.{length-rest, length-row, row-lent}
 use Rattle.audit.proofs.Counting.{Counting, rowsFrom, writerAt, counting-none, counting-more, counting-done, row-bad, too-many, writer-le}
 use Rattle.audit.proofs.rows_ok.Statement.{statement}
 use Rattle.audit.proofs.rows_ok.Tie as tie
 use Rattle.audit.proofs.rows_ok.Reads as reads
 use Rattle.audit.proofs.rows_ok.Lts as lts
-use Rattle.audit.proofs.row_ok.Reads as row-ok-reads
+use Rattle.rows.proofs.row_ok.Reads as row-ok-reads
 
 abbrev Inv-loop : tie.InvT-loop
 Inv-loop space n charges₀ r₀ charges r = Counting space charges r

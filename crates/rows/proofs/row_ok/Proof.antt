@@ -8,15 +8,15 @@ use lib.ListN.{getD, drop, take}
 use Rattle.rules.specs.Lists.{all}
 use Rattle.rules.specs.Fields.{putField}
 use Rattle.rules.specs.Words.{isZero, headOk, rowOk}
-use Rattle.audit.proofs.RowLaws.{few-fields, the-fields, past-fields}
+use Rattle.rows.proofs.RowLaws.{few-fields, the-fields, past-fields}
 use borrow.Author.Needs.{needs}
-use Rattle.audit.proofs.row_ok.Statement.{statement}
-use Rattle.audit.proofs.row_ok.Tie as tie
-use Rattle.audit.proofs.row_ok.Reads as reads
-use Rattle.audit.proofs.row_ok.Lts as lts
-use Rattle.audit.proofs.head_ok.Reads as head-ok-reads
-use Rattle.audit.proofs.put_fields.Reads as put-fields-reads
-use Rattle.audit.proofs.all_zero.Reads as all-zero-reads
+use Rattle.rows.proofs.row_ok.Statement.{statement}
+use Rattle.rows.proofs.row_ok.Tie as tie
+use Rattle.rows.proofs.row_ok.Reads as reads
+use Rattle.rows.proofs.row_ok.Lts as lts
+use Rattle.rows.proofs.head_ok.Reads as head-ok-reads
+use Rattle.rows.proofs.put_fields.Reads as put-fields-reads
+use Rattle.rows.proofs.all_zero.Reads as all-zero-reads
 
 head-ok-requires : tie.Need-head-ok-requires
 head-ok-requires c κs = search needs

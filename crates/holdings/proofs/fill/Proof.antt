@@ -8,10 +8,10 @@ use lib.Seq.{take-all}
 use Rattle.rules.specs.Names.{withBit, defaultPartition, defaultKey}
 use Rattle.rules.specs.Calls.{opened}
 use Rattle.rules.specs.Words.{zeros, encode}
-use Rattle.edits.proofs.Opening.{mid-mid, on-zeros}
+use Rattle.holdings.proofs.Opening.{mid-mid, on-zeros}
 use borrow.Author.Needs.{needs}
-use Rattle.edits.proofs.fill.Statement.{statement}
-use Rattle.edits.proofs.fill.Tie as tie
+use Rattle.holdings.proofs.fill.Statement.{statement}
+use Rattle.holdings.proofs.fill.Tie as tie
 
 clear-requires : tie.Need-clear-requires
 clear-requires c κs = search needs

@@ -6,9 +6,9 @@ use lib.ListN.{length, drop}
 use borrow.Author.Needs.{needs}
 use Rattle.rules.specs.Lists.{all}
 use Rattle.rules.specs.Words.{isZero}
-use Rattle.audit.proofs.Zero.{zero-more, zero-done}
-use Rattle.audit.proofs.all_zero.Statement.{statement}
-use Rattle.audit.proofs.all_zero.Tie as tie
+use Rattle.rows.proofs.Zero.{zero-more, zero-done}
+use Rattle.rows.proofs.all_zero.Statement.{statement}
+use Rattle.rows.proofs.all_zero.Tie as tie
 
 abbrev Inv-loop : tie.InvT-loop
 Inv-loop part seen₀ i₀ seen i = (i ≤ length part) × ((isZero seen && all isZero (drop i part)) ≡ all isZero part)

@@ -8,10 +8,10 @@ use Rattle.rules.specs.Fields.{namesIn}
 use Rattle.rules.specs.State.{giveAll}
 use Rattle.rules.specs.Words.{encode, decode}
 use Rattle.rules.proofs.Back.{encode-decode}
-use Rattle.edits.proofs.Holding.{held-sound, hold-more}
+use Rattle.holdings.proofs.Holding.{held-sound, hold-more}
 use borrow.Author.Needs.{needs}
-use Rattle.edits.proofs.hold_names.Statement.{statement}
-use Rattle.edits.proofs.hold_names.Tie as tie
+use Rattle.holdings.proofs.hold_names.Statement.{statement}
+use Rattle.holdings.proofs.hold_names.Tie as tie
 
 abbrev Inv-loop : tie.InvT-loop
 Inv-loop space₀ party fields i₀ space i = (i ≤ length fields) × (length space ≡ length space₀) × (space ≡ encode (giveAll party (namesIn (take i fields)) (decode space₀)))

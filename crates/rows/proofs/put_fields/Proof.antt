@@ -6,8 +6,8 @@ use borrow.Author.Needs.{needs}
 use Rattle.rules.specs.Lists.{all}
 use Rattle.rules.specs.Fields.{putField}
 use Rattle.rules.proofs.Loops.{all-fails, all-goes-on, all-ends}
-use Rattle.audit.proofs.put_fields.Statement.{statement}
-use Rattle.audit.proofs.put_fields.Tie as tie
+use Rattle.rows.proofs.put_fields.Statement.{statement}
+use Rattle.rows.proofs.put_fields.Tie as tie
 
 abbrev Inv-loop : tie.InvT-loop
 Inv-loop fields i₀ i = (i ≤ length fields) × (all putField (drop i fields) ≡ all putField fields)

@@ -3,10 +3,10 @@ use mathlib.Core.Path.{refl, sym, ap, _∙_}
 use Rattle.rules.specs.Names.{partition, key}
 use Rattle.rules.proofs.Back.{sound-facts}
 use Rattle.words.specs.Kind.{meant}
-use Rattle.edits.proofs.Holding.{name-ok, hold-none, hold-partition, hold-key}
+use Rattle.holdings.proofs.Holding.{name-ok, hold-none, hold-partition, hold-key}
 use borrow.Author.Needs.{needs}
-use Rattle.edits.proofs.hold_name.Statement.{statement}
-use Rattle.edits.proofs.hold_name.Tie as tie
+use Rattle.holdings.proofs.hold_name.Statement.{statement}
+use Rattle.holdings.proofs.hold_name.Tie as tie
 
 field-of-requires : tie.Need-field-of-requires
 field-of-requires c κs = search needs

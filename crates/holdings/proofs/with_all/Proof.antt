@@ -5,11 +5,11 @@ use mathlib.Core.List.{_++_, map}
 use native.Mathlib.Omega.{arith}
 use lib.ListN.{length, take, drop, length-set, length-map}
 use Rattle.rules.specs.Names.{withBit}
 use Rattle.edits.proofs.Store.{store, store-all}
-use Rattle.edits.proofs.Opening.{at-map}
+use Rattle.holdings.proofs.Opening.{at-map}
 use borrow.Author.Needs.{needs}
-use Rattle.edits.proofs.with_all.Statement.{statement}
-use Rattle.edits.proofs.with_all.Tie as tie
+use Rattle.holdings.proofs.with_all.Statement.{statement}
+use Rattle.holdings.proofs.with_all.Tie as tie
 
 abbrev Inv-loop : tie.InvT-loop
 Inv-loop src dst₀ c i₀ dst i = (i ≤ length src) × (length dst ≡ length dst₀) × (dst ≡ take i (map (λ w. withBit w c) src) ++ drop i dst₀)
