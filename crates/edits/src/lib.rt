@@ -22,6 +22,7 @@ fn close_up(part: &mut [u64])
     clear(&mut part[n..]);
 }
 
+// L4: every word becomes 0, as past the live rows.
 pub fn clear(part: &mut [u64])
     ensures { λ _. ⌜ now (part .exit) ≡ zeros (length (now (part .entry))) ⌝ }
 {

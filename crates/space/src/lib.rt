@@ -106,7 +106,8 @@ pub fn take(
     Answer::Found(n)
 }
 
-// R1 to R7, M5, C3: what read and take have in common: the oldest match is sought, its fields are copied out, and the party holds the names in them.
+// R1 to R7, M5, C3: what read and take have in common: the oldest match is sought, its fields are copied out, and the party
+// holds the names in them.
 fn seek(
     space: &mut [u64],
     op: Op,

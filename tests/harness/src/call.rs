@@ -41,6 +41,17 @@ pub struct Query {
     pub result_len: usize,
 }
 
+impl Query {
+    /// As the calls take it, with the fields at that place.
+    fn of<'a>(&self, fields: &'a [u64]) -> reference::Query<'a> {
+        reference::Query {
+            party: self.party,
+            pair: self.pair,
+            fields,
+        }
+    }
+}
+
 impl Call {
     pub fn kind(&self) -> Kind {
         match self {
@@ -90,22 +101,8 @@ impl Call {
             Call::Put {
                 party, read, take, ..
             } => system.put(space, *party, *read, *take, input),
-            Call::Read(query) => system.find(
-                Operation::Read,
-                space,
-                query.party,
-                query.pair,
-                input,
-                result,
-            ),
-            Call::Take(query) => system.find(
-                Operation::Take,
-                space,
-                query.party,
-                query.pair,
-                input,
-                result,
-            ),
+            Call::Read(query) => system.find(Operation::Read, space, query.of(input), result),
+            Call::Take(query) => system.find(Operation::Take, space, query.of(input), result),
         }
     }
 }

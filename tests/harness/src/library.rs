@@ -1,7 +1,7 @@
 //! The linked library, called through the declarations of `space.h`.
 
 use crate::space::Space;
-use reference::{Operation, Pair};
+use reference::{Operation, Pair, Query};
 
 extern "C" {
     fn space_open(space: *mut u64, space_len: usize, roster: *const u64, roster_len: usize) -> u32;
@@ -83,16 +83,8 @@ impl Space for Library {
         }
     }
 
-    fn find(
-        &mut self,
-        operation: Operation,
-        space: &mut [u64],
-        party: u32,
-        pair: Pair,
-        fields: &[u64],
-        result: &mut [u64],
-    ) -> u32 {
-        let call = match operation {
+    fn find(&mut self, op: Operation, space: &mut [u64], query: Query, result: &mut [u64]) -> u32 {
+        let call = match op {
             Operation::Read => space_read,
             Operation::Take => space_take,
         };
@@ -100,11 +92,11 @@ impl Space for Library {
             call(
                 space.as_mut_ptr(),
                 space.len(),
-                party,
-                pair.partition,
-                pair.key,
-                fields.as_ptr(),
-                fields.len(),
+                query.party,
+                query.pair.partition,
+                query.pair.key,
+                query.fields.as_ptr(),
+                query.fields.len(),
                 result.as_mut_ptr(),
                 result.len(),
             )

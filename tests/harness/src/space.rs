@@ -1,6 +1,6 @@
 //! What is tested: anything with the four calls, answering as the C interface does.
 
-use reference::{Operation, Pair, Reference};
+use reference::{Operation, Pair, Query, Reference};
 
 /// The four calls. An answer is 0 for "done" and "none", 1 to 8 for "found" with that count, and
 /// 100 plus its number for a refusal.
@@ -11,15 +11,7 @@ pub trait Space {
         -> u32;
 
     /// Reads or takes.
-    fn find(
-        &mut self,
-        operation: Operation,
-        space: &mut [u64],
-        party: u32,
-        pair: Pair,
-        fields: &[u64],
-        result: &mut [u64],
-    ) -> u32;
+    fn find(&mut self, op: Operation, space: &mut [u64], query: Query, result: &mut [u64]) -> u32;
 }
 
 impl Space for Reference {
@@ -38,15 +30,7 @@ impl Space for Reference {
         Reference::put(self, space, party, read, take, fields).code()
     }
 
-    fn find(
-        &mut self,
-        operation: Operation,
-        space: &mut [u64],
-        party: u32,
-        pair: Pair,
-        fields: &[u64],
-        result: &mut [u64],
-    ) -> u32 {
-        Reference::find(self, operation, space, party, pair, fields, result).code()
+    fn find(&mut self, op: Operation, space: &mut [u64], query: Query, result: &mut [u64]) -> u32 {
+        Reference::find(self, op, space, query, result).code()
     }
 }

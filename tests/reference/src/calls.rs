@@ -19,6 +19,14 @@ pub enum Operation {
     Take,
 }
 
+/// What a read or a take names: the party and the template.
+#[derive(Clone, Copy, Debug)]
+pub struct Query<'a> {
+    pub party: u32,
+    pub pair: Pair,
+    pub fields: &'a [u64],
+}
+
 /// The reference, right or with a blunder.
 #[derive(Clone, Debug)]
 pub struct Reference {
@@ -87,12 +95,15 @@ impl Reference {
         &mut self,
         operation: Operation,
         space: &mut [u64],
-        party: u32,
-        pair: Pair,
-        fields: &[u64],
+        query: Query,
         result: &mut [u64],
     ) -> Answer {
-        if let Some(number) = self.find_refusal(space, party, pair, fields, result.len()) {
+        let Query {
+            party,
+            pair,
+            fields,
+        } = query;
+        if let Some(number) = self.find_refusal(space, query, result.len()) {
             return Answer::Refused(number);
         }
         let Some(index) = self.matching_row(operation, space, pair, fields) else {
@@ -163,14 +174,12 @@ impl Reference {
     }
 
     /// The refusals of a read or a take, in the order of the rules' table.
-    fn find_refusal(
-        &self,
-        space: &[u64],
-        party: u32,
-        pair: Pair,
-        fields: &[u64],
-        result_len: usize,
-    ) -> Option<u32> {
+    fn find_refusal(&self, space: &[u64], query: Query, result_len: usize) -> Option<u32> {
+        let Query {
+            party,
+            pair,
+            fields,
+        } = query;
         if let Some(number) = self.first_refusal(space, party, fields) {
             return Some(number);
         }

@@ -1,7 +1,7 @@
 //! The console's text to text: the whole output as a function of the whole input.
 
 use crate::answer::Answer;
-use crate::calls::{Operation, Reference};
+use crate::calls::{Operation, Query, Reference};
 use crate::names::{
     key_bit, key_in_range, partition_bit, Field, Pair, LAST_PARTITION, MOST_FIELDS, PARTIES,
 };
@@ -156,7 +156,14 @@ impl Session {
                 party,
                 pair,
                 fields,
-            } => reference.find(*operation, space, *party, *pair, fields, result),
+            } => {
+                let query = Query {
+                    party: *party,
+                    pair: *pair,
+                    fields,
+                };
+                reference.find(*operation, space, query, result)
+            }
         }
     }
 }

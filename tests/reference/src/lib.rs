@@ -12,7 +12,7 @@ pub mod table;
 pub mod variant;
 
 pub use answer::Answer;
-pub use calls::{Operation, Reference};
+pub use calls::{Operation, Query, Reference};
 pub use console::console;
 pub use names::{co_key, Field, Pair};
 pub use table::Clause;

@@ -2,7 +2,7 @@
 
 use reference::names::{key_bit, partition_bit, stored_key};
 use reference::table::{KEYS, PARTITIONS, WORDS};
-use reference::{co_key, Answer, Field, Operation, Pair, Reference};
+use reference::{co_key, Answer, Field, Operation, Pair, Query, Reference};
 
 const WILDCARD: u64 = 12_884_901_888;
 const DEFAULT: Pair = Pair {
@@ -39,7 +39,12 @@ type Found = (Answer, [u64; 8]);
 /// The answer and the result words, which start as 99.
 fn find(op: Operation, space: &mut [u64], party: u32, pair: Pair, fields: &[u64]) -> Found {
     let mut result = [99; 8];
-    let answer = Reference::correct().find(op, space, party, pair, fields, &mut result);
+    let query = Query {
+        party,
+        pair,
+        fields,
+    };
+    let answer = Reference::correct().find(op, space, query, &mut result);
     (answer, result)
 }
 
@@ -128,8 +133,13 @@ fn examples_of_the_refusals() {
     };
     assert_eq!(put(&mut space, 0, low_key, &[1]), Answer::Refused(4));
     assert_eq!(put(&mut space, 0, DEFAULT, &[WILDCARD]), Answer::Refused(5));
+    let two_fields = Query {
+        party: 0,
+        pair: DEFAULT,
+        fields: &[1, 2],
+    };
     assert_eq!(
-        reference.find(Operation::Read, &mut space, 0, DEFAULT, &[1, 2], &mut [99]),
+        reference.find(Operation::Read, &mut space, two_fields, &mut [99]),
         Answer::Refused(6)
     );
     assert_eq!(read(&mut space, 0, THERE, &[1]).0, Answer::Refused(7));
