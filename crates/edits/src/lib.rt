@@ -8,7 +8,7 @@ ghost use Rattle.rules.specs.State.{withEntries};
 ghost use Rattle.rules.specs.Words.{zeros, rowOf, encode, decode, sound};
 ghost use Rattle.edits.specs.Row.{entry};
 
-// C4: later rows of the part move up one place, and its last row becomes 0.
+// C4: each row of the part gives way to the one after it, and the last is cleared.
 fn close_up(part: &mut [u64])
     requires { ⌜ 14 ≤ length (now part) ⌝ }
     ensures { λ _. ⌜ now (part .exit) ≡ drop 14 (now (part .entry)) ++ zeros 14 ⌝ }

@@ -104,7 +104,7 @@ put-words s e h l =
     rw (encode-cut s (s .entries) (e ∷ []), a, t, d)
     (ap (λ (x : List ℕ). front s (suc n) (s .entries) ++ (x ++ free (suc n))) (append-nil (rowOf e)))
 
--- the rows after the taken one move up one place, the freed last row becomes 0, and word 0 falls by one
+-- a row removed: those after it close up, a row of zeros follows them, and word 0 is less by one
 pub take-words : (s : State) (es : List Entry) (e : Entry) (fs : List Entry) → WF s → s .entries ≡ es ++ (e ∷ fs)
     → All EntryOk es → All EntryOk (e ∷ fs) → length (s .entries) ≤ 128
     → encode (withEntries (es ++ fs) s)

@@ -70,7 +70,7 @@ pub record SameHoldings (g : Group) (s₁ s₂ : State) : Type 0 where
 abbrev pub groupEntries : Group → State → List Entry
 groupEntries g s = keep (λ e. member g (e .writer)) (s .entries)
 
--- G9: after every beginning of the run no member holds a name outside the group's names
+-- G9: at every point of the run, the first i calls made, all that members hold is among the group's names
 abbrev pub Inside : Group → List ℕ → List (Call (List ℕ)) → Type 0
 Inside g ws cs =
     (i who : ℕ) (n : Name) → member g who ≡ true → holds (decode (run ws (take i cs))) who n ≡ true → NamesAt g ws n

@@ -394,7 +394,7 @@ impl Twins {
             .collect()
     }
 
-    /// After every beginning, no member holds a name outside the group's names.
+    /// All that members hold is among the group's names, at every point of the run.
     fn check_names(&self, number: usize, calls: usize, space: &[u64]) -> Result<(), Outcome> {
         for member in &self.group.members {
             let (partitions, keys) = holdings(space, *member as usize);
@@ -426,7 +426,7 @@ impl Twins {
     }
 }
 
-/// The first n result words after "found" with count n, and otherwise none.
+/// As many result words as an answer "found" counts; other answers have none.
 fn found_fields(kind: Kind, code: u32, result: &[u64]) -> &[u64] {
     match kind {
         Kind::Read | Kind::Take if code as usize <= result.len() => &result[..code as usize],

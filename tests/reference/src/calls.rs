@@ -255,7 +255,7 @@ impl Reference {
         }
     }
 
-    /// The party then also holds each partition and key in these fields.
+    /// The party gains the names that these fields carry.
     fn give_names(&self, space: &mut [u64], party: usize, fields: &[u64]) {
         for word in fields {
             match Field::from_word(*word) {
@@ -273,7 +273,7 @@ impl Reference {
         }
     }
 
-    /// Later rows move up one place and the freed last row becomes 0.
+    /// The rows after it close up, and the last one is cleared.
     fn remove_row(&self, space: &mut [u64], index: usize) {
         let live = space[LIVE] as usize;
         space.copy_within(row_start(index + 1)..row_start(live), row_start(index));

@@ -6,7 +6,7 @@ use crate::table::Clause;
 #[derive(Clone, Copy, Debug, PartialEq, Eq)]
 pub enum Variant {
     Correct,
-    /// Compares the entry's key with the template's key and not its co-key.
+    /// Takes two keys for matching when they are equal.
     ComparesKeyNotCoKey,
     /// Tests the read pair in a take.
     TakeTestsReadPair,
@@ -20,7 +20,7 @@ pub enum Variant {
     LowersTakersCharge,
     /// A take lowers no charge.
     NeverLowersCharge,
-    /// Tests the result's length only once a match is found.
+    /// Finds a match before it looks at the result's length.
     TestsResultLate,
     /// Gives the names in the template and not those in the entry.
     GivesNamesOfTemplate,
