@@ -2,11 +2,9 @@
 use mathlib.Core.Path.{_≡_, sym}
 use mathlib.Core.Bool.{Bool, true, false, not, and-true, true≢false, false≢true}
 use mathlib.Core.List.{List}
-use Prim.Native.Nat.{ℕ, _+_, _-_, _*_, _≤_, _<_}
-use native.Mathlib.Omega.{arith}
+use Prim.Native.Nat.{ℕ, _+_, _*_, _≤_, _<_}
 use borrow.Author.Tests.{eq-eqb, le-leb}
-use lib.ListN.{length, getD, take, drop, length-drop}
-use lib.Seq.{take-all}
+use lib.ListN.{length, getD, drop}
 use Rattle.rules.specs.Lists.{all}
 use Rattle.rules.specs.State.{live}
 use Rattle.rules.specs.Words.{decode, isZero, holdingsOk, sound}
@@ -38,15 +36,13 @@ rows-passed false ws counts h e = absurd (true≢false e)
 
 -- where all tests before the last pass, the words past the live rows decide
 pub rest-decides : (ws counts : List ℕ) → length ws ≡ 1809 → getD ws 0 0 ≤ 128 → holdingsOk (decode ws) ≡ true → Counted ws counts
-    → sound ws ≡ all isZero (take (length ws - (17 + 14 * getD ws 0 0)) (drop (17 + 14 * getD ws 0 0) ws))
+    → sound ws ≡ all isZero (drop (17 + 14 * getD ws 0 0) ws)
 unfolding sound
 rest-decides ws counts len few held counted =
-    let past : List ℕ = drop (17 + 14 * getD ws 0 0) ws in
     rw (
-      take-all (length ws - (17 + 14 * getD ws 0 0)) past (simp length-drop (omega arith)),
       eq-eqb (length ws) 1809 len,
       le-leb (getD ws 0 0) 128 few,
       held,
       counted .rows,
       counted .limits,
-    ) (and-true (all isZero past))
+    ) (and-true (all isZero (drop (17 + 14 * getD ws 0 0) ws)))

@@ -1,3 +1,4 @@
 pub mod HoldingLaws
 pub mod Counting
 pub mod Answers
+pub mod Rest

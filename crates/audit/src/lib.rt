@@ -1,24 +1,25 @@
 // The soundness test of a space: one pass over its words, which also counts each writer's entries.
 ghost use mathlib.Core.Path.{_≡_};
-ghost use Prim.Native.Nat.{_≤_};
-ghost use lib.ListN.{length, getD};
-ghost use Rattle.rules.specs.Words.{zeros, decode, holdingsOk};
+ghost use Prim.Native.Nat.{_+_, _*_, _≤_};
+ghost use lib.ListN.{length, getD, drop};
+ghost use Rattle.rules.specs.Lists.{all};
+ghost use Rattle.rules.specs.Words.{zeros, decode, isZero, holdingsOk};
 ghost use Rattle.audit.specs.Audited.{audited, AfterRows};
 
 // Whether a space is sound and, if so, how many live entries the party has.
 pub enum Finding {
     Unsound,
-    Sound(u64),
+    Sound(u32),
 }
 
 // S6 to S8 of n live rows; charges counts each writer's rows as they pass.
-fn rows_ok(space: &[u64], n: usize, charges: &mut [u64]) -> bool
+fn rows_ok(space: &[u64], n: u32, charges: &mut [u32]) -> bool
     requires { ⌜ (length (now space) ≡ 1809) × (n ≤ 128) × (n ≡ getD (now space) 0 0) × (now charges ≡ zeros 8) ⌝ }
     ensures { λ r. ⌜ AfterRows r (now (space .entry)) (now (charges .exit)) ⌝ }
 {
     let mut r = 0;
     while r < n {
-        let at = 17 + 14 * r;
+        let at = (17 + 14 * r) as usize;
         let end = at + 14;
         if !rows::row_ok(&space[at..end]) {
             return false;
@@ -54,6 +55,23 @@ fn holdings_ok(space: &[u64]) -> bool
     true
 }
 
+// S9: the rows past the live ones, each gathered as a whole.
+fn rest_ok(space: &[u64], n: u32) -> bool
+    requires { ⌜ (length (now space) ≡ 1809) × (n ≤ 128) ⌝ }
+    ensures { λ r. ⌜ r ≡ all isZero (drop (17 + 14 * n) (now (space .entry))) ⌝ }
+{
+    let mut r = n;
+    while r < 128 {
+        let at = (17 + 14 * r) as usize;
+        let end = at + 14;
+        if !rows::blank(&space[at..end]) {
+            return false;
+        }
+        r += 1;
+    }
+    true
+}
+
 // S1 to S9
 pub fn audit(space: &[u64], party: u32) -> Finding
     ensures { λ r. ⌜ r ≡ audited (now (space .entry)) party ⌝ }
@@ -65,16 +83,15 @@ pub fn audit(space: &[u64], party: u32) -> Finding
     if 128 < live {
         return Finding::Unsound;
     }
-    let n = live as usize;
+    let n = live as u32;
     if !holdings_ok(space) {
         return Finding::Unsound;
     }
-    let mut charges = [0u64; 8];
+    let mut charges = [0u32; 8];
     if !rows_ok(space, n, &mut charges) {
         return Finding::Unsound;
     }
-    let rest = 17 + 14 * n;
-    if !rows::all_zero(&space[rest..]) {
+    if !rest_ok(space, n) {
         return Finding::Unsound;
     }
     if 7 < party {

@@ -1,11 +1,11 @@
 -- The words of an opening: a function of each word, and two parts put one after the other into a list.
-use Prim.Native.Nat.{ℕ, zero, suc, _+_, _≤_, _<_}
-use mathlib.Core.Path.{_≡_, refl, ap}
-use mathlib.Core.List.{List, [], _∷_, _++_, map, append-assoc}
+use Prim.Native.Nat.{ℕ, zero, suc, _+_, _-_, _≤_, _<_}
+use mathlib.Core.Path.{_≡_, refl, ap, _∙_}
+use mathlib.Core.List.{List, [], _∷_, _++_, map, append-assoc, append-nil}
 use native.Mathlib.Omega.{arith}
 use native.Mathlib.Nat.{le-of-suc-le-suc}
-use lib.ListN.{length, take, drop, getD, length-append, length-take}
-use lib.Seq.{take-at, drop-at}
+use lib.ListN.{length, take, drop, getD, set, length-append, length-take, length-drop, drop-of-length-le}
+use lib.Seq.{take-at, drop-at, drop-drop}
 use Rattle.rules.specs.Words.{zeros}
 
 pub at-map : (f : ℕ → ℕ) (l : List ℕ) (i : ℕ) → i < length l → f (getD l i 0) ≡ getD (map f l) i 0
@@ -21,6 +21,18 @@ mid-mid z a b i k m h e =
     let len : length (take i z ++ a) ≡ i + k = simp (length-append, length-take) (omega arith) in
     rw (← append-assoc (take i z) a (drop k (drop i z)), take-at (take i z ++ a) (drop k (drop i z)) (i + k) len, drop-at (take i z ++ a) (drop k (drop i z)) (i + k) len)
 
-pub on-zeros : (z a b : List ℕ) → z ≡ zeros 1809 → (take 1 z ++ a) ++ (b ++ drop 8 (drop 8 (drop 1 z))) ≡ 0 ∷ (a ++ (b ++ zeros 1792))
-unfolding zeros
-on-zeros z a b e = ap (λ (l : List ℕ). (take 1 l ++ a) ++ (b ++ drop 8 (drop 8 (drop 1 l)))) e
+-- the part past the holdings, cleared
+pub past-cleared : (s z : List ℕ) (k n : ℕ) → length s ≡ k + n → z ≡ zeros (length (take (length s - k) (drop k s)))
+    → drop k (take k s ++ (z ++ drop (length s - k) (drop k s))) ≡ zeros n
+past-cleared s z k n len e =
+    let front : length (take k s) ≡ k = simp length-take (omega arith) in
+    let size : length (take (length s - k) (drop k s)) ≡ n = simp (length-take, length-drop) (omega arith) in
+    let none : length (drop k s) ≤ length s - k = simp length-drop (omega arith) in
+    drop-at (take k s) (z ++ drop (length s - k) (drop k s)) k front
+    ∙ rw (drop-of-length-le (drop k s) none, append-nil z)
+    (e ∙ ap zeros size)
+
+pub on-cleared : (z a b : List ℕ) → 1 ≤ length z → drop 17 z ≡ zeros 1792
+    → set ((take 1 z ++ a) ++ (b ++ drop 8 (drop 8 (drop 1 z)))) 0 0 ≡ 0 ∷ (a ++ (b ++ zeros 1792))
+on-cleared [] a b h e = absurd (omega arith)
+on-cleared (x ∷ xs) a b h e = ap (λ (l : List ℕ). 0 ∷ (a ++ (b ++ l))) (drop-drop 8 8 xs ∙ e)

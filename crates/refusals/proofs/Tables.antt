@@ -7,12 +7,13 @@ use mathlib.Core.List.{List, [], _∷_, _++_}
 use mathlib.Core.Option.{Option, none, some}
 use native.Mathlib.Omega.{arith}
 use borrow.Author.Tests.{ltb-false}
+use lib.Dec.{eqb, ltb}
 use lib.ListN.{length}
 use Rattle.rules.specs.Lists.{All}
 use Rattle.rules.specs.State.{live}
 use Rattle.rules.specs.Calls.{Table, firstThatApplies}
 use Rattle.rules.specs.Words.{decode, sound}
-use Rattle.rules.proofs.ListLaws.{bool, passed, not-false}
+use Rattle.rules.proofs.ListLaws.{bool, passed, not-false, or-right}
 use Rattle.rules.proofs.Back.{sound-facts}
 use Rattle.audit.specs.Audited.{audited}
 use Rattle.audit.specs.declared.Finding.the-variants.{Unsound, Sound}
@@ -65,12 +66,12 @@ module _ (ts ys : Table) (ws : List ℕ) (who : ℕ) (fs : List ℕ) (begins : t
   unfolding verdict
   first-leaves v e h = rw (begins, first-append (firstTests ws who fs) ys, e) h
 
-pub first-passed : (ws : List ℕ) (who : ℕ) (fs : List ℕ) → firstThatApplies (firstTests ws who fs) ≡ none → (length ws ≡ 1809) × (who < 8)
+pub first-passed : (ws : List ℕ) (who : ℕ) (fs : List ℕ) → firstThatApplies (firstTests ws who fs) ≡ none → (length ws ≡ 1809) × (who < 8) × (length fs ≤ 8)
 unfolding firstTests
 first-passed ws who fs e =
     let p : All (λ t. t .0 ≡ false) (firstTests ws who fs) = passed (firstTests ws who fs) e in
     let l : who ≤ 7 = ltb-false 7 who (p .1 .0) in
-    (sound-facts ws (not-false (sound ws) (p .0)) .len, omega arith)
+    (sound-facts ws (not-false (sound ws) (p .0)) .len, omega arith, ltb-false 8 (length fs) (or-right (eqb (length fs) 0) (ltb 8 (length fs)) (p .1 .1 .0)))
 
 -- a verdict, back to its table
 pub verdict-refused : (ts : Table) (n : ℕ) → Refused n ≡ verdict ts → firstThatApplies ts ≡ some n

@@ -3,7 +3,7 @@ use audit::Finding;
 ghost use mathlib.Core.Path.{_≡_};
 ghost use mathlib.Core.Bool.{true, not};
 ghost use mathlib.Core.List.{_∷_};
-ghost use Prim.Native.Nat.{_<_};
+ghost use Prim.Native.Nat.{_≤_, _<_};
 ghost use lib.ListN.{length};
 ghost use Rattle.rules.specs.Lists.{all};
 ghost use Rattle.rules.specs.Names.{keyInRange, heldIn};
@@ -21,7 +21,7 @@ pub enum Verdict {
 
 // What the tests that every call begins with come to: how many live entries the party has, or a refusal.
 enum Begun {
-    Live(u64),
+    Live(u32),
     Refused(u32),
 }
 
@@ -125,11 +125,13 @@ fn bad_pair(partition: u32, key: i32) -> bool
 
 // R5
 fn template_fields(template: &[u64]) -> bool
+    requires { ⌜ length (now template) ≤ 8 ⌝ }
     ensures { λ r. ⌜ r ≡ all templateField (now (template .entry)) ⌝ }
 {
+    let n = template.len() as u32;
     let mut i = 0;
-    while i < template.len() {
-        if !words::template_field(template[i]) {
+    while i < n {
+        if !words::template_field(template[i as usize]) {
             return false;
         }
         i += 1;
@@ -147,7 +149,7 @@ fn put_held(
     tkey: i32,
     fields: &[u64],
 ) -> bool
-    requires { ⌜ (length (now space) ≡ 1809) × (party < 8) × (keyInRange rkey ≡ true) × (keyInRange tkey ≡ true) ⌝ }
+    requires { ⌜ (length (now space) ≡ 1809) × (party < 8) × (keyInRange rkey ≡ true) × (keyInRange tkey ≡ true) × (length (now fields) ≤ 8) ⌝ }
     ensures { λ r. ⌜ r ≡ all (holds (decode (now (space .entry))) party) (putNames (pair rpart rkey) (pair tpart tkey) (now (fields .entry))) ⌝ }
 {
     let p = party as usize;
@@ -161,7 +163,7 @@ fn put_held(
 
 // R7
 fn seek_held(space: &[u64], party: u32, partition: u32, key: i32, template: &[u64]) -> bool
-    requires { ⌜ (length (now space) ≡ 1809) × (party < 8) × (keyInRange key ≡ true) ⌝ }
+    requires { ⌜ (length (now space) ≡ 1809) × (party < 8) × (keyInRange key ≡ true) × (length (now template) ≤ 8) ⌝ }
     ensures { λ r. ⌜ r ≡ all (holds (decode (now (space .entry))) party) (seekNames (pair partition key) (now (template .entry))) ⌝ }
 {
     let p = party as usize;
@@ -185,11 +187,13 @@ fn pair_held(partitions: u64, keys: u64, partition: u32, key: i32) -> bool
 
 // R7: the names in fields.
 fn fields_held(partitions: u64, keys: u64, fields: &[u64]) -> bool
+    requires { ⌜ length (now fields) ≤ 8 ⌝ }
     ensures { λ r. ⌜ r ≡ all (heldIn partitions keys) (namesIn (now (fields .entry))) ⌝ }
 {
+    let n = fields.len() as u32;
     let mut i = 0;
-    while i < fields.len() {
-        if !words::field_held(partitions, keys, fields[i]) {
+    while i < n {
+        if !words::field_held(partitions, keys, fields[i as usize]) {
             return false;
         }
         i += 1;

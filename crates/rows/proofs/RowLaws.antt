@@ -1,19 +1,20 @@
 -- A row as the code tests it: its head, then its fields, then the words past them.
-use mathlib.Core.Path.{_≡_, sym, ap, _∙_}
+use mathlib.Core.Path.{_≡_, refl, sym, ap, _∙_}
 use mathlib.Core.Logic.{_⊎_, inl, inr}
-use mathlib.Core.Bool.{true, false, _&&_, and-false, false≢true}
-use mathlib.Core.List.{List}
+use mathlib.Core.Bool.{Bool, true, false, _&&_, and-true, and-false, false≢true}
+use mathlib.Core.List.{List, [], _∷_}
 use Prim.Native.Nat.{ℕ, _+_, _-_, _≤_}
 use native.Mathlib.Nat.{add-sub-cancel-left}
 use native.Mathlib.Omega.{arith}
-use borrow.Author.Tests.{leb-true}
+use borrow.Author.Tests.{leb-true, eqb-true}
 use lib.Dec.{leb}
-use lib.ListN.{length, getD, take, drop, length-take, length-drop}
+use lib.ListN.{length, getD, take, drop, length-take, length-drop, take-append-drop}
 use lib.Seq.{take-all, take-take, take-add, drop-drop, drop-at, getD-take}
 use Rattle.rules.specs.Lists.{all}
-use Rattle.rules.specs.Fields.{putField}
+use Rattle.rules.specs.Fields.{field, putField}
 use Rattle.rules.specs.Words.{isZero, headOk, rowOk}
-use Rattle.rules.proofs.ListLaws.{bool}
+use Rattle.rules.proofs.ListLaws.{bool, and-left, and-right}
+use Rattle.rules.proofs.Loops.{all-append}
 
 pub few-fields : (r : List ℕ) → headOk r ≡ true → getD r 5 0 ≤ 8
 few-fields r h = go (bool (leb (getD r 5 0) 8))
@@ -22,16 +23,36 @@ few-fields r h = go (bool (leb (getD r 5 0) 8))
     go (inl e) = leb-true (getD r 5 0) 8 e
     go (inr e) = absurd (false≢true (simp (e, and-false) at h))
 
--- the fields, and the words past them, as the parts of the row that are lent
-module _ (r : List ℕ) (n : ℕ) where
-  pub the-fields : take (6 + n - 6) (drop 6 r) ≡ take n (drop 6 r)
-  the-fields = rw add-sub-cancel-left
+-- a word of 0 is a message, which a put may carry
+zero-puts : (l : List ℕ) → all isZero l ≡ true → all putField l ≡ true
+unfolding putField field
+zero-puts [] h = refl
+zero-puts (w ∷ l) h =
+    let z : w ≡ 0 = eqb-true w 0 (and-left (isZero w) (all isZero l) h) in
+    rw z (zero-puts l (and-right (isZero w) (all isZero l) h))
 
-  pub past-fields : length r ≡ 14 → take (length r - (6 + n)) (drop (6 + n) r) ≡ drop n (take 8 (drop 6 r))
-  past-fields h =
-      take-all (length r - (6 + n)) (drop (6 + n) r) (simp length-drop (omega arith))
-      ∙ sym (drop-drop n 6 r)
-      ∙ ap (drop n) (sym (take-all 8 (drop 6 r) (simp length-drop (omega arith))))
+-- where the words past the fields are 0, the fields can be tested with them
+fields-tested : (n : ℕ) (l : List ℕ) → (all putField (take n l) && all isZero (drop n l)) ≡ (all putField l && all isZero (drop n l))
+fields-tested n l = go (bool (all isZero (drop n l)))
+  where
+    whole : all putField l ≡ (all putField (take n l) && all putField (drop n l))
+    whole = ap (all putField) (sym (take-append-drop n l)) ∙ all-append putField (take n l) (drop n l)
+
+    go : (all isZero (drop n l) ≡ true) ⊎ (all isZero (drop n l) ≡ false)
+        → (all putField (take n l) && all isZero (drop n l)) ≡ (all putField l && all isZero (drop n l))
+    go (inl e) = rw (e, whole, zero-puts (drop n l) e, and-true (all putField (take n l))) (sym (and-true (all putField (take n l))))
+    go (inr e) = rw e (and-false (all putField (take n l)) ∙ sym (and-false (all putField l)))
+
+-- the row as the code tests it: all eight field words as fields, and those from the number of fields on for 0
+module _ (r : List ℕ) (len : length r ≡ 14) where
+  pub the-fields : take (length r - 6) (drop 6 r) ≡ drop 6 r
+  the-fields = take-all (length r - 6) (drop 6 r) (simp length-drop (omega arith))
+
+  pub row-tested : rowOk r ≡ (headOk r && (all putField (drop 6 r) && all isZero (drop (6 + getD r 5 0) r)))
+  unfolding rowOk
+  row-tested =
+      rw (take-all 8 (drop 6 r) (simp length-drop (omega arith)), ← (drop-drop (getD r 5 0) 6 r))
+      (ap (λ (b : Bool). headOk r && b) (fields-tested (getD r 5 0) (drop 6 r)))
 
 -- a row is tested alike with and without the words that follow it
 head-cut : (r : List ℕ) → headOk (take 14 r) ≡ headOk r

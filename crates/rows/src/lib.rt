@@ -1,30 +1,34 @@
 // One row of the table: whether its words are sound.
 ghost use mathlib.Core.Path.{_≡_};
-ghost use lib.ListN.{length};
+ghost use Prim.Native.Nat.{_≤_};
+ghost use lib.ListN.{length, drop};
 ghost use Rattle.rules.specs.Lists.{all};
 ghost use Rattle.rules.specs.Fields.{putField};
 ghost use Rattle.rules.specs.Words.{isZero, headOk, rowOk};
 
-// Every word is 0; the bits are gathered, so that one comparison serves all.
-pub fn all_zero(part: &[u64]) -> bool
-    ensures { λ r. ⌜ r ≡ all isZero (now (part .entry)) ⌝ }
+// L4: every word of the row is 0. The bits are gathered, so that one comparison serves many words; the first two go apart,
+// since a small processor can load those at once.
+pub fn blank(row: &[u64]) -> bool
+    requires { ⌜ length (now row) ≡ 14 ⌝ }
+    ensures { λ r. ⌜ r ≡ all isZero (now (row .entry)) ⌝ }
 {
-    let mut seen = 0;
-    let mut i = 0;
-    while i < part.len() {
-        seen = seen | part[i];
-        i += 1;
+    if (row[0] | row[1]) != 0 {
+        return false;
     }
-    seen == 0
+    let head = row[2] | row[3] | row[4] | row[5];
+    let rest = head | row[6] | row[7] | row[8] | row[9] | row[10] | row[11] | row[12] | row[13];
+    rest == 0
 }
 
 // F3: every field is one that a put may carry.
 pub fn put_fields(fields: &[u64]) -> bool
+    requires { ⌜ length (now fields) ≤ 8 ⌝ }
     ensures { λ r. ⌜ r ≡ all putField (now (fields .entry)) ⌝ }
 {
+    let n = fields.len() as u32;
     let mut i = 0;
-    while i < fields.len() {
-        if !words::put_field(fields[i]) {
+    while i < n {
+        if !words::put_field(fields[i as usize]) {
             return false;
         }
         i += 1;
@@ -47,7 +51,22 @@ fn head_ok(row: &[u64]) -> bool
     writer & (read_partition & (read_key & (take_partition & (take_key & (some & few)))))
 }
 
-// S6, S7
+// S7: the words of the row from that one on are 0.
+fn zero_from(row: &[u64], from: u32) -> bool
+    requires { ⌜ length (now row) ≡ 14 ⌝ }
+    ensures { λ r. ⌜ r ≡ all isZero (drop from (now (row .entry))) ⌝ }
+{
+    let mut i = from;
+    while i < 14 {
+        if row[i as usize] != 0 {
+            return false;
+        }
+        i += 1;
+    }
+    true
+}
+
+// S6, S7: all eight field words are tested as fields, since a word of 0 is one.
 pub fn row_ok(row: &[u64]) -> bool
     requires { ⌜ length (now row) ≡ 14 ⌝ }
     ensures { λ r. ⌜ r ≡ rowOk (now (row .entry)) ⌝ }
@@ -55,9 +74,8 @@ pub fn row_ok(row: &[u64]) -> bool
     if !head_ok(row) {
         return false;
     }
-    let end = 6 + row[5] as usize;
-    if !put_fields(&row[6..end]) {
+    if !put_fields(&row[6..]) {
         return false;
     }
-    all_zero(&row[end..])
+    zero_from(row, 6 + row[5] as u32)
 }

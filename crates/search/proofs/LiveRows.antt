@@ -18,7 +18,7 @@ use Rattle.rules.proofs.ListLaws.{bool, and-left, and-right}
 use Rattle.rules.proofs.Rows.{EntryOk}
 use Rattle.rules.proofs.Back.{SoundFacts, sound-facts, row-back}
 use Rattle.search.specs.Place.{meant}
-use Rattle.search.specs.Pairs.{offset, pairAt}
+use Rattle.search.specs.Pairs.{offset, SmallAt, pairAt}
 use Rattle.search.specs.declared.Op.{Op}
 use Rattle.search.specs.declared.Op.the-variants.{Reading, Taking}
 
@@ -81,10 +81,6 @@ pub offset-le : (op : Op) (n : ℕ) → n ≡ offset op → n ≤ 3
 offset-le Reading n e = omega arith
 offset-le Taking n e = omega arith
 
-pub pair-count : (ws : List ℕ) (at o p k n : ℕ) (x : Bool) → x ≡ pairAt ws at o p k n → x ≡ true → getD ws (at + 5) 0 ≡ n
-unfolding pairAt
-pair-count ws at o p k n x e h = eqb-true (getD ws (at + 5) 0) n (and-left (eqb (getD ws (at + 5) 0) n) _ (sym e ∙ h))
-
 module _ {ws : List ℕ} {r : ℕ} (row : LiveRow ws r) where
   pair-on : (op : Op) → (pairFor (meant op) (entryOn ws r) .partition ≡ getD ws (17 + 14 * r + offset op) 0)
       × (pairFor (meant op) (entryOn ws r) .key ≡ getD ws (17 + 14 * r + (offset op + 1)) 0)
@@ -92,15 +88,33 @@ module _ {ws : List ℕ} {r : ℕ} (row : LiveRow ws r) where
   pair-on Reading = (getD-drop (17 + 14 * r) ws 1 0, getD-drop (17 + 14 * r) ws 2 0, row .ok .readOk .keyOk)
   pair-on Taking = (getD-drop (17 + 14 * r) ws 3 0, getD-drop (17 + 14 * r) ws 4 0, row .ok .takeOk .keyOk)
 
+  -- S6: the words that the search tests first are in range
+  pub small-on : {at : ℕ} → at ≡ 17 + 14 * r → (op : Op) (o : ℕ) → o ≡ offset op → SmallAt ws at o
+  small-on p Reading o e =
+      let q = pair-on Reading in
+      rw (p, e) (record { count = omega (arith, row .ok .few, row .count); partition = omega (arith, row .ok .readOk .partitionOk, q .0); key = omega (arith, q .2, q .1) })
+  small-on p Taking o e =
+      let q = pair-on Taking in
+      rw (p, e) (record { count = omega (arith, row .ok .few, row .count); partition = omega (arith, row .ok .takeOk .partitionOk, q .0); key = omega (arith, q .2, q .1) })
+
+  -- M1: a row that passes the first test has as many fields
+  pub count-on : {at : ℕ} → at ≡ 17 + 14 * r → (o p k n : ℕ) (x : Bool) → x ≡ pairAt ws at o p k n → x ≡ true → length (entryOn ws r .fields) ≡ n
+  unfolding pairAt
+  count-on {at} a o p k n x e h =
+      row .count
+      ∙ ap (λ (w : ℕ). getD ws (w + 5) 0) (sym a)
+      ∙ eqb-true (getD ws (at + 5) 0) n (and-left (eqb (getD ws (at + 5) 0) n) _ (sym e ∙ h))
+
   -- M1 to M4, as the search goes about them: the pair, then the fields
-  pub match-on : (op : Op) (o p k : ℕ) (t : List ℕ) (x b d : Bool) → o ≡ offset op → k ≤ 62 → x ≡ pairAt ws (17 + 14 * r) o p k (length t) → x ≡ b
+  pub match-on : {at : ℕ} → at ≡ 17 + 14 * r → (op : Op) (o p k : ℕ) (t : List ℕ) (x b d : Bool) → o ≡ offset op → k ≤ 62 → x ≡ pairAt ws at o p k (length t) → x ≡ b
       → fieldsAgree t (entryOn ws r .fields) ≡ d → matches (meant op) (pair p (coStored k)) t (entryOn ws r) ≡ (b && d)
   unfolding matches pairAt
-  match-on op o p k t x b d e l h y g =
+  match-on a op o p k t x b d e l h y g =
       let q = pair-on op in
+      let there : x ≡ pairAt ws (17 + 14 * r) o p k (length t) = h ∙ ap (λ (w : ℕ). pairAt ws w o p k (length t)) a in
       let key : ℕ = pairFor (meant op) (entryOn ws r) .key in
       fields-last (eqb (length t) (length (entryOn ws r .fields))) (fieldsAgree t (entryOn ws r .fields)) _
-      ∙ rw (co-eqb key k (q .2) l, q .0, q .1, ← e, eqb-comm (length t) (length (entryOn ws r .fields)), row .count, ← h, y, g)
+      ∙ rw (co-eqb key k (q .2) l, q .0, q .1, ← e, eqb-comm (length t) (length (entryOn ws r .fields)), row .count, ← there, y, g)
 
   field-on : (i : ℕ) → i < length (entryOn ws r .fields) → getD (entryOn ws r .fields) i 0 ≡ getD ws (17 + 14 * r + (6 + i)) 0
   field-on i l =
@@ -111,12 +125,12 @@ module _ {ws : List ℕ} {r : ℕ} (row : LiveRow ws r) where
       ∙ getD-drop (17 + 14 * r) ws (6 + i) 0
 
   -- M2: what is left of the fields at i is one field and what is left at i + 1
-  pub fields-on : (t : List ℕ) (i : ℕ) (x b : Bool) → i < length t → length (entryOn ws r .fields) ≡ length t
-      → x ≡ fieldAgrees (getD t i 0) (getD ws (17 + 14 * r + (6 + i)) 0) → x ≡ b
+  pub fields-on : {at : ℕ} → at ≡ 17 + 14 * r → (t : List ℕ) (i : ℕ) (x b : Bool) → i < length t → length (entryOn ws r .fields) ≡ length t
+      → x ≡ fieldAgrees (getD t i 0) (getD ws (at + (6 + i)) 0) → x ≡ b
       → fieldsAgree (drop i t) (drop i (entryOn ws r .fields)) ≡ (b && fieldsAgree (drop (i + 1) t) (drop (i + 1) (entryOn ws r .fields)))
-  fields-on t i x b l n h y =
+  fields-on a t i x b l n h y =
       let k : i < length (entryOn ws r .fields) = omega arith in
-      rw (add-one, ← y, h, ← (field-on i k), drop-cons t i 0, drop-cons (entryOn ws r .fields) i 0)
+      rw (add-one, ← y, h, a, ← (field-on i k), drop-cons t i 0, drop-cons (entryOn ws r .fields) i 0)
 
 pub fields-end : (t fs : List ℕ) (i : ℕ) → length t ≤ i → fieldsAgree (drop i t) (drop i fs) ≡ true
 fields-end t fs i l = rw (drop-of-length-le t l)

@@ -1,7 +1,7 @@
 -- What the search tests of a row before its fields, on the words.
 use mathlib.Core.Bool.{Bool, _&&_}
 use mathlib.Core.List.{List}
-use Prim.Native.Nat.{ℕ, _+_}
+use Prim.Native.Nat.{ℕ, _+_, _≤_}
 use lib.Dec.{eqb}
 use lib.ListN.{getD}
 use Rattle.search.specs.declared.Op.{Op}
@@ -11,6 +11,12 @@ use Rattle.search.specs.declared.Op.the-variants.{Reading, Taking}
 abbrev pub offset : Op → ℕ
 offset Reading = 1
 offset Taking = 3
+
+-- S6: the count, the partition and the key at that offset are in range
+pub record SmallAt (ws : List ℕ) (at pair : ℕ) : Type 0 where
+  pub count : getD ws (at + 5) 0 ≤ 8
+  pub partition : getD ws (at + pair) 0 ≤ 63
+  pub key : getD ws (at + (pair + 1)) 0 ≤ 62
 
 -- M1, M3, M4: the row at that word has the count, and the partition and the key at that offset
 unfoldable pub pairAt : List ℕ → ℕ → ℕ → ℕ → ℕ → ℕ → Bool

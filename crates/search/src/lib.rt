@@ -7,7 +7,7 @@ ghost use Rattle.rules.specs.Names.{coStored};
 ghost use Rattle.rules.specs.Matching.{pair, matches};
 ghost use Rattle.rules.specs.Words.{decode, sound};
 ghost use Rattle.search.specs.Place.{meant, place};
-ghost use Rattle.search.specs.Pairs.{offset, pairAt};
+ghost use Rattle.search.specs.Pairs.{offset, SmallAt, pairAt};
 
 // C3, C4: which pair of an entry the search goes by.
 pub enum Op {
@@ -22,20 +22,22 @@ pub enum Found {
 }
 
 // M5: left at the first row whose fields all agree, and each row at the first field that does not.
-pub fn search(space: &[u64], op: Op, partition: u64, cokey: u64, template: &[u64]) -> Found
-    requires { ⌜ (sound (now space) ≡ true) × (cokey ≤ 62) ⌝ }
+pub fn search(space: &[u64], op: Op, partition: u32, cokey: u32, template: &[u64]) -> Found
+    requires { ⌜ (sound (now space) ≡ true) × (cokey ≤ 62) × (length (now template) ≤ 8) ⌝ }
     ensures { λ r. ⌜ r ≡ place (matches (meant op) (pair partition (coStored cokey)) (now (template .entry))) (decode (now (space .entry)) .entries) ⌝ }
 {
     let pair = pair_of(op);
-    let live = space[0] as usize;
-    let count = template.len();
+    let live = space[0] as u32;
+    let count = template.len() as u32;
     let mut row = 0;
+    let mut word = 17u32;
     'rows: while row < live {
-        let at = 17 + 14 * row;
-        if pair_agrees(space, at, pair, partition, cokey, count as u64) {
+        let at = word as usize;
+        if pair_agrees(space, at, pair, partition, cokey, count) {
             let mut i = 0;
             'fields: while i < count {
-                if !words::field_agrees(template[i], space[at + (6 + i)]) {
+                let k = i as usize;
+                if !words::field_agrees(template[k], space[at + (6 + k)]) {
                     break 'fields;
                 }
                 i += 1;
@@ -45,9 +47,10 @@ pub fn search(space: &[u64], op: Op, partition: u64, cokey: u64, template: &[u64
             }
         }
         row += 1;
+        word += 14;
     }
     if row < live {
-        Found::At(row)
+        Found::At(row as usize)
     } else {
         Found::Nothing
     }
@@ -63,20 +66,20 @@ fn pair_of(op: Op) -> usize
     }
 }
 
-// M1, M3, M4: the row at that word has the count, and the pair.
+// M1, M3, M4: the row at that word has the count, and the pair. In a sound space these words are small.
 fn pair_agrees(
     space: &[u64],
     at: usize,
     pair: usize,
-    partition: u64,
-    cokey: u64,
-    count: u64,
+    partition: u32,
+    cokey: u32,
+    count: u32,
 ) -> bool
-    requires { ⌜ (at + 14 ≤ length (now space)) × (pair ≤ 3) ⌝ }
+    requires { ⌜ (at + 14 ≤ length (now space)) × (pair ≤ 3) × SmallAt (now space) at pair ⌝ }
     ensures { λ r. ⌜ r ≡ pairAt (now (space .entry)) at pair partition cokey count ⌝ }
 {
-    let fields = space[at + 5] == count;
-    let partitions = space[at + pair] == partition;
-    let keys = space[at + (pair + 1)] == cokey;
+    let fields = space[at + 5] as u32 == count;
+    let partitions = space[at + pair] as u32 == partition;
+    let keys = space[at + (pair + 1)] as u32 == cokey;
     fields & (partitions & keys)
 }

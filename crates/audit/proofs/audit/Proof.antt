@@ -11,9 +11,9 @@ use Rattle.audit.proofs.audit.Statement.{statement}
 use Rattle.audit.proofs.audit.Tie as tie
 use Rattle.audit.proofs.audit.Reads as reads
 use Rattle.audit.proofs.audit.Lts as lts
-use Rattle.rows.proofs.all_zero.Reads as all-zero-reads
 use Rattle.audit.proofs.holdings_ok.Reads as holdings-ok-reads
 use Rattle.audit.proofs.rows_ok.Reads as rows-ok-reads
+use Rattle.audit.proofs.rest_ok.Reads as rest-ok-reads
 
 returns : tie.Need-returns
 unfolding audited sound
@@ -27,6 +27,9 @@ unfolding audited sound
 returns-2 c =
     let space = c .before .before .before .before .args .space .now in
     rw (eq-eqb (length space) 1809 (c .before .before .if1 .left), lt-leb (getD space 0 0) 128 (c .if2 .taken))
+
+cast-n : tie.Need-cast-n
+cast-n c = search needs
 
 holdings-ok-requires : tie.Need-holdings-ok-requires
 holdings-ok-requires c κs = search needs
@@ -50,54 +53,36 @@ returns-4 c =
     let space = c .before .before .before .before .before .before .before .before .before .before .args .space .now in
     unsound-audited space (c .before .before .before .before .before .before .before .before .before .before .args .party) (rows-failed (c .before .before .rows-ok .result) space (c .before .before .rows-ok .last .1 .1 .0) (c .before .before .rows-ok .ensures) (c .if4 .taken))
 
-mul-rest : tie.Need-mul-rest
-mul-rest c = search needs
-
-add-rest : tie.Need-add-rest
-add-rest c = search needs
-
-mul-all-zero : tie.Need-mul-all-zero
-mul-all-zero c = search needs
-
-sub-all-zero : tie.Need-sub-all-zero
-sub-all-zero c = search needs
-
-part-all-zero-start : tie.Need-part-all-zero-start
-part-all-zero-start c = search needs
-
-part-all-zero-end : tie.Need-part-all-zero-end
-part-all-zero-end c = search needs
-
-all-zero-requires : tie.Need-all-zero-requires
-all-zero-requires c κs = search needs
+rest-ok-requires : tie.Need-rest-ok-requires
+rest-ok-requires c κs = search needs
 
 -- past the last test
-module _ (c : lts.After-all-zero (holdings-ok-reads.Asked, holdings-ok-reads.Learnt, rows-ok-reads.Asked, rows-ok-reads.Learnt, all-zero-reads.Asked, all-zero-reads.Learnt) reads.Pre reads.Post) where
-  counted : Counted (c .before .before .before .before .before .before .before .before .before .before .before .before .args .space .now) (c .before .before .before .before .rows-ok .last .1 .1 .0)
-  counted = rows-passed (c .before .before .before .before .rows-ok .result) (c .before .before .before .before .before .before .before .before .before .before .before .before .args .space .now) (c .before .before .before .before .rows-ok .last .1 .1 .0) (c .before .before .before .before .rows-ok .ensures) (c .before .before .if4 .left)
+module _ (c : lts.After-rest-ok (holdings-ok-reads.Asked, holdings-ok-reads.Learnt, rows-ok-reads.Asked, rows-ok-reads.Learnt, rest-ok-reads.Asked, rest-ok-reads.Learnt) reads.Pre reads.Post) where
+  counted : Counted (c .before .before .before .before .before .before .before .before .before .before .before .args .space .now) (c .before .before .before .rows-ok .last .1 .1 .0)
+  counted = rows-passed (c .before .before .before .rows-ok .result) (c .before .before .before .before .before .before .before .before .before .before .before .args .space .now) (c .before .before .before .rows-ok .last .1 .1 .0) (c .before .before .before .rows-ok .ensures) (c .before .if4 .left)
 
-  decided : sound (c .before .before .before .before .before .before .before .before .before .before .before .before .args .space .now) ≡ c .all-zero .result
+  decided : sound (c .before .before .before .before .before .before .before .before .before .before .before .args .space .now) ≡ c .rest-ok .result
   decided =
-      rest-decides (c .before .before .before .before .before .before .before .before .before .before .before .before .args .space .now) (c .before .before .before .before .rows-ok .last .1 .1 .0) (c .before .before .before .before .before .before .before .before .before .before .if1 .left) (c .before .before .before .before .before .before .before .before .if2 .left)
-      (sym (c .before .before .before .before .before .before .before .holdings-ok .ensures) ∙ not-false _ (c .before .before .before .before .before .before .if3 .left)) counted
-      ∙ sym (c .all-zero .ensures)
+      rest-decides (c .before .before .before .before .before .before .before .before .before .before .before .args .space .now) (c .before .before .before .rows-ok .last .1 .1 .0) (c .before .before .before .before .before .before .before .before .before .if1 .left) (c .before .before .before .before .before .before .before .if2 .left)
+      (sym (c .before .before .before .before .before .before .holdings-ok .ensures) ∙ not-false _ (c .before .before .before .before .before .if3 .left)) counted
+      ∙ sym (c .rest-ok .ensures)
 
 returns-5 : tie.Need-returns-5
-returns-5 c = unsound-audited (c .before .before .before .before .before .before .before .before .before .before .before .before .before .args .space .now) (c .before .before .before .before .before .before .before .before .before .before .before .before .before .args .party) (decided (c .before) ∙ not-true _ (c .if5 .taken))
+returns-5 c = unsound-audited (c .before .before .before .before .before .before .before .before .before .before .before .before .args .space .now) (c .before .before .before .before .before .before .before .before .before .before .before .before .args .party) (decided (c .before) ∙ not-true _ (c .if5 .taken))
 
 returns-6 : tie.Need-returns-6
-returns-6 c = none-audited (c .before .before .before .before .before .before .before .before .before .before .before .before .before .before .args .space .now) (c .before .before .before .before .before .before .before .before .before .before .before .before .before .before .args .party) (decided (c .before .before) ∙ not-false _ (c .before .if5 .left)) (c .if6 .taken)
+returns-6 c = none-audited (c .before .before .before .before .before .before .before .before .before .before .before .before .before .args .space .now) (c .before .before .before .before .before .before .before .before .before .before .before .before .before .args .party) (decided (c .before .before) ∙ not-false _ (c .before .if5 .left)) (c .if6 .taken)
 
-mul-t15 : tie.Need-mul-t15
-mul-t15 c = search needs
+mul-t13 : tie.Need-mul-t13
+mul-t13 c = search needs
 
-array-read-t10 : tie.Need-array-read-t10
-array-read-t10 c = search needs
+array-read-t16 : tie.Need-array-read-t16
+array-read-t16 c = search needs
 
 returns-7 : tie.Need-returns-7
 returns-7 c =
-    let space = c .before .before .before .before .before .before .before .before .before .before .before .before .before .before .args .space .now in
-    let party = c .before .before .before .before .before .before .before .before .before .before .before .before .before .before .args .party in
+    let space = c .before .before .before .before .before .before .before .before .before .before .before .before .before .args .space .now in
+    let party = c .before .before .before .before .before .before .before .before .before .before .before .before .before .args .party in
     sound-audited space party (decided (c .before .before) ∙ not-false _ (c .before .if5 .left)) _ (counted (c .before .before) .charges party (search needs))
 
 pub audit-spec : {M : Type 1} → statement M
@@ -107,20 +92,15 @@ audit-spec =
     returns
     shared-slice-read-live
     returns-2
+    cast-n
     holdings-ok-requires
     returns-3
     slice-aggregate-rows-ok
     rows-ok-requires
     returns-4
-    mul-rest
-    add-rest
-    mul-all-zero
-    sub-all-zero
-    part-all-zero-start
-    part-all-zero-end
-    all-zero-requires
+    rest-ok-requires
     returns-5
     returns-6
-    mul-t15
-    array-read-t10
+    mul-t13
+    array-read-t16
     returns-7)

@@ -31,6 +31,9 @@ mul-at c = search needs
 add-at : tie.Need-add-at Inv-loop μ-loop
 add-at c = search needs
 
+cast-at : tie.Need-cast-at Inv-loop μ-loop
+cast-at c = search needs
+
 add-end : tie.Need-add-end Inv-loop μ-loop
 add-end c = search needs
 
@@ -122,6 +125,7 @@ rows-ok-spec =
     loop-holds
     mul-at
     add-at
+    cast-at
     add-end
     mul-row-ok
     sub-row-ok

@@ -1,17 +1,26 @@
--- `fill` meets its contract: two parts written into zeros.
-use Prim.Native.Nat.{ℕ, _≤_}
+-- `fill` meets its contract: two parts written before the cleared one, and the count.
+use Prim.Native.Nat.{ℕ, _-_, _≤_}
 use mathlib.Core.Path.{_≡_, ap, _∙_}
-use mathlib.Core.List.{List, map}
+use mathlib.Core.List.{List, _++_, map}
 use native.Mathlib.Omega.{arith}
-use lib.ListN.{length, take, drop, length-map, length-take, length-drop}
+use lib.ListN.{length, take, drop, set, length-append, length-map, length-take, length-drop, length-set}
 use lib.Seq.{take-all}
 use Rattle.rules.specs.Names.{withBit, defaultPartition, defaultKey}
 use Rattle.rules.specs.Calls.{opened}
 use Rattle.rules.specs.Words.{zeros, encode}
-use Rattle.holdings.proofs.Opening.{mid-mid, on-zeros}
+use Rattle.holdings.proofs.Opening.{mid-mid, past-cleared, on-cleared}
 use borrow.Author.Needs.{needs}
 use Rattle.holdings.proofs.fill.Statement.{statement}
 use Rattle.holdings.proofs.fill.Tie as tie
+
+sub-clear : tie.Need-sub-clear
+sub-clear c = search needs
+
+part-clear-start : tie.Need-part-clear-start
+part-clear-start c = search needs
+
+part-clear-end : tie.Need-part-clear-end
+part-clear-end c = search needs
 
 clear-requires : tie.Need-clear-requires
 clear-requires c κs = search needs
@@ -58,28 +67,37 @@ part-with-all-end-4 c = search needs
 with-all-requires-2 : tie.Need-with-all-requires-2
 with-all-requires-2 c κs = search needs
 
+slice-write-space : tie.Need-slice-write-space
+slice-write-space c = search needs
+
 same-length : tie.Need-same-length
-same-length c = search needs
+same-length c = rw length-set (search needs)
 
 returns : tie.Need-returns
 unfolding opened encode
 returns c =
-    let roster = c .before .before .before .before .before .before .before .before .before .before .before .before .before .before .before .before .args .roster .now in
-    let z = c .before .before .before .before .before .before .before .before .before .before .before .before .clear .last .0 in
+    let start = c .before .before .before .before .before .before .before .before .before .before .before .before .before .before .before .before in
+    let s = start .args .space .now in
+    let roster = start .args .roster .now in
+    let cleared = c .before .before .before .before .before .before .before .before .before .before .before .before .clear .last .0 in
+    let z : List ℕ = take 17 s ++ (cleared ++ drop (length s - 17) (drop 17 s)) in
     let partitions : List ℕ = map (λ w. withBit w defaultPartition) (take 8 roster) in
     let keys : List ℕ = map (λ w. withBit w defaultKey) (drop 8 roster) in
-    let clear : z ≡ zeros 1809 = c .before .before .before .before .before .before .before .before .before .before .before .before .clear .ensures ∙ ap zeros (c .before .before .before .before .before .before .before .before .before .before .before .before .before .before .before .before .pre .0) in
+    let past : drop 17 z ≡ zeros 1792 = past-cleared s cleared 17 1792 (start .pre .0) (c .before .before .before .before .before .before .before .before .before .before .before .before .clear .ensures) in
     let first : c .before .before .before .before .before .before .before .with-all .last .1 .0 ≡ partitions = c .before .before .before .before .before .before .before .with-all .ensures in
     let whole : take 8 (drop 8 roster) ≡ drop 8 roster = take-all 8 (drop 8 roster) (simp length-drop (omega arith)) in
     let second : c .before .before .with-all2 .last .1 .0 ≡ keys = c .before .before .with-all2 .ensures ∙ ap (map (λ w. withBit w defaultKey)) whole in
     let eight : length partitions ≡ 8 = length-map (take 8 roster) _ ∙ simp length-take (omega arith) in
-    let some : 1 ≤ length z = omega (arith, c .before .before .before .before .before .before .before .before .before .before .before .before .clear .kept .0) in
-    rw (first, second) (mid-mid z partitions keys 1 8 8 some eight ∙ on-zeros z partitions keys clear)
+    let some : 1 ≤ length z = simp (length-append, length-take) (omega (arith, start .pre .0)) in
+    rw (first, second) (ap (λ (l : List ℕ). set l 0 0) (mid-mid z partitions keys 1 8 8 some eight) ∙ on-cleared z partitions keys some past)
 
 pub fill-spec : {M : Type 1} → statement M
 fill-spec =
     tie.close
     (tie.spec
+    sub-clear
+    part-clear-start
+    part-clear-end
     clear-requires
     sub-with-all
     part-with-all-start
@@ -95,5 +113,6 @@ fill-spec =
     part-with-all-start-4
     part-with-all-end-4
     with-all-requires-2
+    slice-write-space
     same-length
     returns)

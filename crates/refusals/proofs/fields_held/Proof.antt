@@ -16,13 +16,19 @@ abbrev carried : ℕ → ℕ → ℕ → Bool
 carried partitions keys w = all (heldIn partitions keys) (nameIn (field w))
 
 abbrev Inv-loop : tie.InvT-loop
-Inv-loop partitions keys fields i₀ i = (i ≤ length fields) × (all (carried partitions keys) (drop i fields) ≡ all (carried partitions keys) fields)
+Inv-loop partitions keys fields n i₀ i = (i ≤ length fields) × (all (carried partitions keys) (drop i fields) ≡ all (carried partitions keys) fields)
 
 abbrev μ-loop : tie.MeasureT-loop
-μ-loop partitions keys fields i₀ i = length fields - i
+μ-loop partitions keys fields n i₀ i = length fields - i
+
+cast-n : tie.Need-cast-n Inv-loop μ-loop
+cast-n c = search needs
 
 loop-holds : tie.Need-loop-holds Inv-loop μ-loop
 loop-holds c = (search needs, refl)
+
+cast-field-held : tie.Need-cast-field-held Inv-loop μ-loop
+cast-field-held c = search needs
 
 mul-field-held : tie.Need-mul-field-held Inv-loop μ-loop
 mul-field-held c = search needs
@@ -54,7 +60,9 @@ fields-held-spec =
     (tie.spec
     Inv-loop
     μ-loop
+    cast-n
     loop-holds
+    cast-field-held
     mul-field-held
     shared-slice-read-field-held
     field-held-requires

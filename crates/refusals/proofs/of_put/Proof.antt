@@ -103,7 +103,7 @@ unfolding whole putTable
 returns-2 c = past-3 (c .before .before .before) _ (decides _ 4 _ (pairs-are (c .before) ∙ c .if1 .taken))
 
 put-fields-requires : tie.Need-put-fields-requires
-put-fields-requires c κs = search needs
+put-fields-requires c κs = first-passed _ _ _ (begun-is (c .before .before .before) .0) .2
 
 returns-3 : tie.Need-returns-3
 unfolding whole putTable
@@ -116,7 +116,7 @@ put-held-requires c κs =
     let rkey : keyInRange (a .rkey) ≡ true = pair-in-range (pair (a .rpart) (a .rkey)) (or-left (badPair (pair (a .rpart) (a .rkey))) (badPair (pair (a .tpart) (a .tkey))) good) in
     let tkey : keyInRange (a .tkey) ≡ true = pair-in-range (pair (a .tpart) (a .tkey)) (or-right (badPair (pair (a .rpart) (a .rkey))) (badPair (pair (a .tpart) (a .tkey))) good) in
     let f = first-passed _ _ _ (begun-is (c .before .before .before .before .before) .0) in
-    (f .0, f .1, ap keyInRange (toZ-ofZ {w = w32} (c .before .before .before .before .before .before .before .before .before .before .before .fits .rkey)) ∙ rkey, ap keyInRange (toZ-ofZ {w = w32} (c .before .before .before .before .before .before .before .before .before .before .before .fits .tkey)) ∙ tkey)
+    (f .0, f .1, ap keyInRange (toZ-ofZ {w = w32} (c .before .before .before .before .before .before .before .before .before .before .before .fits .rkey)) ∙ rkey, ap keyInRange (toZ-ofZ {w = w32} (c .before .before .before .before .before .before .before .before .before .before .before .fits .tkey)) ∙ tkey, f .2)
 
 returns-4 : tie.Need-returns-4
 unfolding whole putTable

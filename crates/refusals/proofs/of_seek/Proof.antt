@@ -90,7 +90,7 @@ unfolding whole seekTable
 returns-2 c = past-3 (c .before .before) _ (decides _ 4 _ (pair-is (c .before) ∙ c .if1 .taken))
 
 template-fields-requires : tie.Need-template-fields-requires
-template-fields-requires c κs = search needs
+template-fields-requires c κs = first-passed _ _ _ (begun-is (c .before .before)) .2
 
 returns-3 : tie.Need-returns-3
 unfolding whole seekTable
@@ -105,7 +105,7 @@ seek-held-requires c κs =
     let a = c .before .before .before .before .before .before .before .before .before .before .args in
     let key : keyInRange (a .key) ≡ true = pair-in-range (pair (a .partition) (a .key)) (pair-is (c .before .before .before .before) ∙ c .before .before .before .if1 .left) in
     let f = first-passed _ _ _ (begun-is (c .before .before .before .before .before)) in
-    (f .0, f .1, ap keyInRange (toZ-ofZ {w = w32} (c .before .before .before .before .before .before .before .before .before .before .fits .key)) ∙ key)
+    (f .0, f .1, ap keyInRange (toZ-ofZ {w = w32} (c .before .before .before .before .before .before .before .before .before .before .fits .key)) ∙ key, f .2)
 
 returns-5 : tie.Need-returns-5
 unfolding whole seekTable

@@ -10,13 +10,19 @@ use Rattle.refusals.proofs.template_fields.Statement.{statement}
 use Rattle.refusals.proofs.template_fields.Tie as tie
 
 abbrev Inv-loop : tie.InvT-loop
-Inv-loop template i₀ i = (i ≤ length template) × (all templateField (drop i template) ≡ all templateField template)
+Inv-loop template n i₀ i = (i ≤ length template) × (all templateField (drop i template) ≡ all templateField template)
 
 abbrev μ-loop : tie.MeasureT-loop
-μ-loop template i₀ i = length template - i
+μ-loop template n i₀ i = length template - i
+
+cast-n : tie.Need-cast-n Inv-loop μ-loop
+cast-n c = search needs
 
 loop-holds : tie.Need-loop-holds Inv-loop μ-loop
 loop-holds c = (search needs, refl)
+
+cast-template-field : tie.Need-cast-template-field Inv-loop μ-loop
+cast-template-field c = search needs
 
 mul-template-field : tie.Need-mul-template-field Inv-loop μ-loop
 mul-template-field c = search needs
@@ -48,7 +54,9 @@ template-fields-spec =
     (tie.spec
     Inv-loop
     μ-loop
+    cast-n
     loop-holds
+    cast-template-field
     mul-template-field
     shared-slice-read-template-field
     template-field-requires

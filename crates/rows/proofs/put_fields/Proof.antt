@@ -10,13 +10,19 @@ use Rattle.rows.proofs.put_fields.Statement.{statement}
 use Rattle.rows.proofs.put_fields.Tie as tie
 
 abbrev Inv-loop : tie.InvT-loop
-Inv-loop fields i₀ i = (i ≤ length fields) × (all putField (drop i fields) ≡ all putField fields)
+Inv-loop fields n i₀ i = (i ≤ length fields) × (all putField (drop i fields) ≡ all putField fields)
 
 abbrev μ-loop : tie.MeasureT-loop
-μ-loop fields i₀ i = length fields - i
+μ-loop fields n i₀ i = length fields - i
+
+cast-n : tie.Need-cast-n Inv-loop μ-loop
+cast-n c = search needs
 
 loop-holds : tie.Need-loop-holds Inv-loop μ-loop
 loop-holds c = (search needs, refl)
+
+cast-put-field : tie.Need-cast-put-field Inv-loop μ-loop
+cast-put-field c = search needs
 
 mul-put-field : tie.Need-mul-put-field Inv-loop μ-loop
 mul-put-field c = search needs
@@ -48,7 +54,9 @@ put-fields-spec =
     (tie.spec
     Inv-loop
     μ-loop
+    cast-n
     loop-holds
+    cast-put-field
     mul-put-field
     shared-slice-read-put-field
     put-field-requires

@@ -1,6 +1,7 @@
 -- The pair at a row is tested as `pairAt` says.
 use Rattle.search.specs.Pairs.{pairAt}
 use mathlib.Core.Path.{refl}
+use native.Mathlib.Omega.{arith}
 use borrow.Author.Needs.{needs}
 use Rattle.search.proofs.pair_agrees.Statement.{statement}
 use Rattle.search.proofs.pair_agrees.Tie as tie
@@ -14,6 +15,9 @@ mul-fields c = search needs
 shared-slice-read-fields : tie.Need-shared-slice-read-fields
 shared-slice-read-fields c = search needs
 
+cast-fields : tie.Need-cast-fields
+cast-fields c = omega (arith, c .before .pre .2 .count)
+
 add-partitions : tie.Need-add-partitions
 add-partitions c = search needs
 
@@ -22,6 +26,9 @@ mul-partitions c = search needs
 
 shared-slice-read-partitions : tie.Need-shared-slice-read-partitions
 shared-slice-read-partitions c = search needs
+
+cast-partitions : tie.Need-cast-partitions
+cast-partitions c = omega (arith, c .before .before .pre .2 .partition)
 
 add-keys : tie.Need-add-keys
 add-keys c = search needs
@@ -35,6 +42,9 @@ mul-keys c = search needs
 shared-slice-read-keys : tie.Need-shared-slice-read-keys
 shared-slice-read-keys c = search needs
 
+cast-keys : tie.Need-cast-keys
+cast-keys c = omega (arith, c .before .before .before .pre .2 .key)
+
 returns : tie.Need-returns
 unfolding pairAt
 returns c = refl
@@ -46,11 +56,14 @@ pair-agrees-spec =
     add-fields
     mul-fields
     shared-slice-read-fields
+    cast-fields
     add-partitions
     mul-partitions
     shared-slice-read-partitions
+    cast-partitions
     add-keys
     add-keys-2
     mul-keys
     shared-slice-read-keys
+    cast-keys
     returns)

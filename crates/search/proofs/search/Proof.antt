@@ -3,7 +3,7 @@ use mathlib.Core.Path.{_≡_, refl, sym, _∙_}
 use mathlib.Core.Logic.{⊎-elim}
 use mathlib.Core.Bool.{Bool, true, false}
 use mathlib.Core.List.{List}
-use Prim.Native.Nat.{ℕ, _-_, _≤_}
+use Prim.Native.Nat.{ℕ, _+_, _-_, _*_, _≤_}
 use native.Mathlib.Omega.{arith}
 use native.Mathlib.Nat.{le-antisymm, ne-of-lt}
 use borrow.Author.Needs.{needs}
@@ -19,7 +19,7 @@ use Rattle.search.specs.Place.{meant, place}
 use Rattle.search.specs.Pairs.{offset}
 use Rattle.search.specs.declared.Op.{Op}
 use Rattle.search.proofs.Places.{past, past-none, hit, miss, over}
-use Rattle.search.proofs.LiveRows.{entryOn, LiveRow, live-row, offset-le, pair-count, match-on, fields-on, fields-end}
+use Rattle.search.proofs.LiveRows.{entryOn, LiveRow, live-row, small-on, offset-le, count-on, match-on, fields-on, fields-end}
 use Rattle.search.proofs.search.Statement.{statement}
 use Rattle.search.proofs.search.Tie as tie
 
@@ -27,35 +27,37 @@ abbrev sought : Op → ℕ → ℕ → List ℕ → Entry → Bool
 sought op partition cokey template = matches (meant op) (matching.pair partition (coStored cokey)) template
 
 -- at a row: none of the entries before it matches
-record Rows (space : List ℕ) (partition cokey : ℕ) (template : List ℕ) (pair live row : ℕ) : Type 0 where
+record Rows (space : List ℕ) (partition cokey : ℕ) (template : List ℕ) (pair live row word : ℕ) : Type 0 where
   isSound : sound space ≡ true
   size : length space ≡ 1809
   few : live ≤ 128
   pairBound : pair ≤ 3
   keyBound : cokey ≤ 62
   bound : row ≤ live
+  here : word ≡ 17 + 14 * row
   older : (op : Op) → pair ≡ offset op
       → place (sought op partition cokey template) (decode space .entries) ≡ past row (place (sought op partition cokey template) (drop row (decode space .entries)))
 
 -- at a field: those before it agree
-record Fields (space template : List ℕ) (row i : ℕ) : Type 0 where
+record Fields (space template : List ℕ) (row word i : ℕ) : Type 0 where
   live : LiveRow space row
   same : length (entryOn space row .fields) ≡ length template
   few : length template ≤ 8
+  here : word ≡ 17 + 14 * row
   bound : i ≤ length template
   rest : fieldsAgree template (entryOn space row .fields) ≡ fieldsAgree (drop i template) (drop i (entryOn space row .fields))
 
 abbrev Inv-fields : tie.InvT-fields
-Inv-fields space partition cokey template pair live count row at i₀ i = Fields space template row i
+Inv-fields space partition cokey template pair live count row word at i₀ i = Fields space template row word i
 
 abbrev μ-fields : tie.MeasureT-fields
-μ-fields space partition cokey template pair live count row at i₀ i = length template - i
+μ-fields space partition cokey template pair live count row word at i₀ i = length template - i
 
 abbrev Inv-rows : tie.InvT-rows
-Inv-rows space partition cokey template pair live count row₀ row = Rows space partition cokey template pair live row
+Inv-rows space partition cokey template pair live count row₀ word₀ row word = Rows space partition cokey template pair live row word
 
 abbrev μ-rows : tie.MeasureT-rows
-μ-rows space partition cokey template pair live count row₀ row = live - row
+μ-rows space partition cokey template pair live count row₀ word₀ row word = live - row
 
 -- all fields agree exactly when the loop over them has come to their end
 agreed : (c : tie.Left-fields Inv-fields μ-fields Inv-rows μ-rows)
@@ -66,7 +68,7 @@ agreed c =
     inv .rest
     ∙ ⊎-elim
     (λ w. fields-end _ _ _ (w .left) ∙ sym (eq-eqb _ _ (le-antisymm (inv .bound) (w .left))))
-    (λ w. fields-on (inv .live) _ _ _ false (w .0 .taken) (inv .same) (w .3 .ensures) (not-true _ (w .4 .taken)) ∙ sym (ne-eqb _ _ (ne-of-lt (w .0 .taken))))
+    (λ w. fields-on (inv .live) (inv .here) _ _ _ false (w .0 .taken) (inv .same) (w .3 .ensures) (not-true _ (w .4 .taken)) ∙ sym (ne-eqb _ _ (ne-of-lt (w .0 .taken))))
     (c .fields-test .came)
 
 pair-of-requires : tie.Need-pair-of-requires Inv-fields μ-fields Inv-rows μ-rows
@@ -74,6 +76,12 @@ pair-of-requires c κs = search needs
 
 shared-slice-read-live : tie.Need-shared-slice-read-live Inv-fields μ-fields Inv-rows μ-rows
 shared-slice-read-live c = let f = sound-facts _ (c .before .before .before .before .pre .0) in omega (arith, f .len)
+
+cast-live : tie.Need-cast-live Inv-fields μ-fields Inv-rows μ-rows
+cast-live c = let f = sound-facts _ (c .before .before .before .before .pre .0) in omega (arith, f .count)
+
+cast-count : tie.Need-cast-count Inv-fields μ-fields Inv-rows μ-rows
+cast-count c = search needs
 
 rows-holds : tie.Need-rows-holds Inv-fields μ-fields Inv-rows μ-rows
 rows-holds c =
@@ -86,24 +94,27 @@ rows-holds c =
       pairBound = offset-le (start .args .op) _ (c .before .pair-of .ensures);
       keyBound = start .pre .1;
       bound = omega arith;
+      here = refl;
       older = λ op e. past-none _;
     }
 
-mul-at : tie.Need-mul-at Inv-fields μ-fields Inv-rows μ-rows
-mul-at c = search needs
-
-add-at : tie.Need-add-at Inv-fields μ-fields Inv-rows μ-rows
-add-at c = search needs
+cast-at : tie.Need-cast-at Inv-fields μ-fields Inv-rows μ-rows
+cast-at c = search needs
 
 pair-agrees-requires : tie.Need-pair-agrees-requires Inv-fields μ-fields Inv-rows μ-rows
-pair-agrees-requires c κs = search needs
+pair-agrees-requires c κs =
+    let live = live-row _ _ (c .before .rows .inv .isSound) (c .rows-test .taken) in
+    (search needs, search needs, small-on live (c .before .rows .inv .here) (c .before .before .before .before .before .before .args .op) _ (c .before .before .before .pair-of .ensures))
 
 fields-holds : tie.Need-fields-holds Inv-fields μ-fields Inv-rows μ-rows
 fields-holds c =
     let inv = c .before .before .before .rows .inv in
     let row = live-row _ _ (inv .isSound) (c .before .before .rows-test .taken) in
-    let same = row .count ∙ pair-count _ _ _ _ _ _ _ (c .before .pair-agrees .ensures) (c .if1 .taken) in
-    record { live = row; same = same; few = rw same at (row .ok .few); bound = omega arith; rest = refl }
+    let same = count-on row (inv .here) _ _ _ _ _ (c .before .pair-agrees .ensures) (c .if1 .taken) in
+    record { live = row; same = same; few = rw same at (row .ok .few); here = inv .here; bound = omega arith; rest = refl }
+
+cast-k : tie.Need-cast-k Inv-fields μ-fields Inv-rows μ-rows
+cast-k c = search needs
 
 mul-field-agrees : tie.Need-mul-field-agrees Inv-fields μ-fields Inv-rows μ-rows
 mul-field-agrees c = search needs
@@ -141,12 +152,16 @@ fields-again c =
       live = inv .live;
       same = inv .same;
       few = inv .few;
+      here = inv .here;
       bound = omega arith;
-      rest = inv .rest ∙ fields-on (inv .live) _ _ _ true (c .before .before .before .before .fields-test .taken) (inv .same) (c .before .field-agrees .ensures) (not-false _ (c .if2 .left));
+      rest = inv .rest ∙ fields-on (inv .live) (inv .here) _ _ _ true (c .before .before .before .before .fields-test .taken) (inv .same) (c .before .field-agrees .ensures) (not-false _ (c .if2 .left));
     }
 
 add-row : tie.Need-add-row Inv-fields μ-fields Inv-rows μ-rows
 add-row c = search needs
+
+add-word : tie.Need-add-word Inv-fields μ-fields Inv-rows μ-rows
+add-word c = search needs
 
 rows-less : tie.Need-rows-less Inv-fields μ-fields Inv-rows μ-rows
 rows-less c = search needs
@@ -162,6 +177,7 @@ rows-again c =
       pairBound = inv .pairBound;
       keyBound = inv .keyBound;
       bound = omega arith;
+      here = omega (arith, inv .here);
       older = λ op e.
           inv .older op e
           ∙ miss _ _ _ _ _ (live .split)
@@ -169,10 +185,13 @@ rows-again c =
           (λ w.
           let left : tie.Left-fields Inv-fields μ-fields Inv-rows μ-rows =
           record { before = record { before = record { before = c .before; if1 = w .0 }; fields = w .1 }; fields-test = w .2 } in
-          match-on live op _ _ _ _ _ true false e (inv .keyBound) (c .before .pair-agrees .ensures) (w .0 .taken) (agreed left ∙ ne-eqb _ _ (w .3 .left)))
-          (λ w. match-on live op _ _ _ _ _ false _ e (inv .keyBound) (c .before .pair-agrees .ensures) (w .left) refl)
+          match-on live (inv .here) op _ _ _ _ _ true false e (inv .keyBound) (c .before .pair-agrees .ensures) (w .0 .taken) (agreed left ∙ ne-eqb _ _ (w .3 .left)))
+          (λ w. match-on live (inv .here) op _ _ _ _ _ false _ e (inv .keyBound) (c .before .pair-agrees .ensures) (w .left) refl)
           (c .if1 .came));
     }
+
+cast-t32 : tie.Need-cast-t32 Inv-fields μ-fields Inv-rows μ-rows
+cast-t32 c = search needs
 
 returns : tie.Need-returns Inv-fields μ-fields Inv-rows μ-rows
 returns c =
@@ -191,7 +210,7 @@ returns c =
     sym
     (inv .older (start .args .op) e
     ∙ hit _ _ _ _ _ (live .split)
-    (match-on live (start .args .op) _ _ _ (start .args .template .now) _ true true e (inv .keyBound) (w .1 .ensures) (w .2 .taken)
+    (match-on live (inv .here) (start .args .op) _ _ _ (start .args .template .now) _ true true e (inv .keyBound) (w .1 .ensures) (w .2 .taken)
     (agreed left ∙ eq-eqb _ _ (w .5 .taken)))))
     (c .before .rows-test .came)
 
@@ -211,11 +230,13 @@ search-spec =
     μ-rows
     pair-of-requires
     shared-slice-read-live
+    cast-live
+    cast-count
     rows-holds
-    mul-at
-    add-at
+    cast-at
     pair-agrees-requires
     fields-holds
+    cast-k
     mul-field-agrees
     shared-slice-read-field-agrees
     add-field-agrees
@@ -227,7 +248,9 @@ search-spec =
     fields-less
     fields-again
     add-row
+    add-word
     rows-less
     rows-again
+    cast-t32
     returns
     returns-2)

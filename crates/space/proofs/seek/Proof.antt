@@ -96,10 +96,16 @@ enum-told c = search needs
 stored-co-key-requires : tie.Need-stored-co-key-requires
 stored-co-key-requires c κs = ap keyInRange (toZ-ofZ {w = w32} (c .before .before .before .before .before .before .before .fits .key)) ∙ passed c .range
 
+co-small : (c : tie.After-stored-co-key) → c .stored-co-key .result ≤ 62
+co-small c =
+    let k = c .before .before .before .before .before .before .before .before .args .key in
+    subst (λ (n : ℕ). n ≤ 62) (sym (cokey-is c)) (stored-le (coKey k) (co-in-range k (passed (c .before) .range)))
+
+cast-search : tie.Need-cast-search
+cast-search c = omega (arith, co-small (c .before))
+
 search-requires : tie.Need-search-requires
-search-requires c κs =
-    let k = c .before .before .before .before .before .before .before .before .before .args .key in
-    (passed (c .before .before) .isSound, subst (λ (n : ℕ). n ≤ 62) (sym (cokey-is (c .before))) (stored-le (coKey k) (co-in-range k (passed (c .before .before) .range))))
+search-requires c κs = (passed (c .before .before) .isSound, co-small (c .before), passed (c .before .before) .few)
 
 enum-known-row : tie.Need-enum-known-row
 enum-known-row c = search needs
@@ -148,6 +154,7 @@ seek-spec =
     returns
     enum-told
     stored-co-key-requires
+    cast-search
     search-requires
     enum-known-row
     enum-told-2

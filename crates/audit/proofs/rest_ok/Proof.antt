@@ -1,0 +1,81 @@
+-- `rest_ok` meets its contract: what is left at r decides as the whole does.
+use Prim.Native.Nat.{_+_, _-_, _*_}
+use mathlib.Core.Path.{_≡_, refl}
+use borrow.Author.Needs.{needs}
+use Rattle.rows.proofs.RowLaws.{length-row}
+use Rattle.audit.proofs.Rest.{zeroFrom, rest-stops, rest-goes-on, rest-ends}
+use Rattle.audit.proofs.rest_ok.Statement.{statement}
+use Rattle.audit.proofs.rest_ok.Tie as tie
+
+abbrev Inv-loop : tie.InvT-loop
+Inv-loop space n r₀ r = zeroFrom space r ≡ zeroFrom space n
+
+abbrev μ-loop : tie.MeasureT-loop
+μ-loop space n r₀ r = 128 - r
+
+loop-holds : tie.Need-loop-holds Inv-loop μ-loop
+loop-holds c = refl
+
+mul-at : tie.Need-mul-at Inv-loop μ-loop
+mul-at c = search needs
+
+add-at : tie.Need-add-at Inv-loop μ-loop
+add-at c = search needs
+
+cast-at : tie.Need-cast-at Inv-loop μ-loop
+cast-at c = search needs
+
+add-end : tie.Need-add-end Inv-loop μ-loop
+add-end c = search needs
+
+mul-blank : tie.Need-mul-blank Inv-loop μ-loop
+mul-blank c = search needs
+
+sub-blank : tie.Need-sub-blank Inv-loop μ-loop
+sub-blank c = search needs
+
+part-blank-start : tie.Need-part-blank-start Inv-loop μ-loop
+part-blank-start c = search needs
+
+part-blank-end : tie.Need-part-blank-end Inv-loop μ-loop
+part-blank-end c = search needs
+
+blank-requires : tie.Need-blank-requires Inv-loop μ-loop
+blank-requires c κs = length-row (c .before .before .before .before .args .space .now) (17 + 14 * c .before .before .loop .r) (search needs)
+
+returns : tie.Need-returns Inv-loop μ-loop
+returns c = rest-stops (c .before .before .before .before .before .before .args .space .now) (c .before .before .before .before .loop .r) (c .before .before .before .before .loop .inv) (c .before .blank .ensures) (c .if1 .taken)
+
+add-r : tie.Need-add-r Inv-loop μ-loop
+add-r c = search needs
+
+loop-less : tie.Need-loop-less Inv-loop μ-loop
+loop-less c = search needs
+
+loop-again : tie.Need-loop-again Inv-loop μ-loop
+loop-again c = rest-goes-on (c .before .before .before .before .before .before .args .space .now) (c .before .before .before .before .loop .r) (c .before .before .before .before .loop .inv) (c .before .blank .ensures) (c .if1 .left)
+
+returns-2 : tie.Need-returns-2 Inv-loop μ-loop
+returns-2 c = rest-ends (c .before .before .before .args .space .now) (c .before .loop .r) (c .before .loop .inv) (c .before .before .before .pre .0) (c .loop-test .left)
+
+pub rest-ok-spec : {M : Type 1} → statement M
+rest-ok-spec =
+    tie.close
+    (tie.spec
+    Inv-loop
+    μ-loop
+    loop-holds
+    mul-at
+    add-at
+    cast-at
+    add-end
+    mul-blank
+    sub-blank
+    part-blank-start
+    part-blank-end
+    blank-requires
+    returns
+    add-r
+    loop-less
+    loop-again
+    returns-2)
