@@ -19,9 +19,12 @@ use Rattle.rules.proofs.Rows.{length-zeros}
 use Rattle.rules.proofs.Back.{sound-facts, wf-decode, row-back}
 use Rattle.audit.specs.Audited.{Counted}
 
--- the words from row r on
+-- the words from row r on, which are row r and those from the next row on
 abbrev pub rowsFrom : List ℕ → ℕ → List ℕ
 rowsFrom ws r = drop (17 + 14 * r) ws
+
+pub rows-after : (ws : List ℕ) (r : ℕ) → drop 14 (rowsFrom ws r) ≡ rowsFrom ws (r + 1)
+rows-after ws r = let e : 17 + 14 * r + 14 ≡ 17 + 14 * (r + 1) = omega arith in drop-drop 14 (17 + 14 * r) ws ∙ ap (λ (k : ℕ). drop k ws) e
 
 abbrev pub writerAt : List ℕ → ℕ → ℕ
 writerAt ws r = getD ws (17 + 14 * r) 0
@@ -90,12 +93,9 @@ module _ (ws counts : List ℕ) (r : ℕ) (at : Counting ws counts r) (more : r 
   left : getD ws 0 0 - r ≡ suc (getD ws 0 0 - (r + 1))
   left = omega arith
 
-  rest : drop 14 (rowsFrom ws r) ≡ rowsFrom ws (r + 1)
-  rest = let e : 17 + 14 * r + 14 ≡ 17 + 14 * (r + 1) = omega arith in drop-drop 14 (17 + 14 * r) ws ∙ ap (λ (k : ℕ). drop k ws) e
-
   rows-next : (rowOk (rowsFrom ws r) && rowsOk (getD ws 0 0 - (r + 1)) (rowsFrom ws (r + 1))) ≡ rowsOk (getD ws 0 0) (drop 17 ws)
   rows-next =
-      ap (λ (l : List ℕ). rowOk (rowsFrom ws r) && rowsOk (getD ws 0 0 - (r + 1)) l) (sym rest)
+      ap (λ (l : List ℕ). rowOk (rowsFrom ws r) && rowsOk (getD ws 0 0 - (r + 1)) l) (sym (rows-after ws r))
       ∙ ap (λ (k : ℕ). rowsOk k (rowsFrom ws r)) (sym left)
       ∙ at .rows
 
@@ -107,7 +107,7 @@ module _ (ws counts : List ℕ) (r : ℕ) (at : Counting ws counts r) (more : r 
   live-next who =
       ap (λ (k : ℕ). live who (entriesAt k (rowsFrom ws r))) left
       ∙ live-cons who (entryAt (rowsFrom ws r)) (entriesAt (getD ws 0 0 - (r + 1)) (drop 14 (rowsFrom ws r)))
-      ∙ ap₂ (λ (w : ℕ) (l : List ℕ). cond (eqb w who) 1 0 + live who (entriesAt (getD ws 0 0 - (r + 1)) l)) (first-word ws r) rest
+      ∙ ap₂ (λ (w : ℕ) (l : List ℕ). cond (eqb w who) 1 0 + live who (entriesAt (getD ws 0 0 - (r + 1)) l)) (first-word ws r) (rows-after ws r)
 
   -- the writer has as many as it may have before this row
   pub too-many : writerAt ws r ≤ 7 → 16 ≤ getD counts (writerAt ws r) 0 → sound ws ≡ false
@@ -117,7 +117,8 @@ module _ (ws counts : List ℕ) (r : ℕ) (at : Counting ws counts r) (more : r 
       live-next w ∙ rw (eqb-same w) in
       unsound ws (λ s. omega (arith, at .count w l, wf-decode ws s .limits w))
 
-  pub counting-more : writerAt ws r ≤ 7 → rowOk (rowsFrom ws r) ≡ true → getD counts (writerAt ws r) 0 < 16 → Counting ws (raised counts (writerAt ws r)) (r + 1)
+  pub counting-more : writerAt ws r ≤ 7 → rowOk (rowsFrom ws r) ≡ true → getD counts (writerAt ws r) 0 < 16
+      → Counting ws (raised counts (writerAt ws r)) (r + 1)
   counting-more l e h =
       let w : ℕ = writerAt ws r in
       let fits : w < length counts = omega (arith, at .len) in
@@ -150,6 +151,7 @@ counting-done ws counts r at h =
     let charges : (who : ℕ) → who ≤ 7 → getD counts who 0 ≡ live who (decode ws .entries) = λ who l. omega (arith, rw none at (at .count who l)) in
     record {
       rows = sym (rw (none, end) at (at .rows));
-      limits = all-parties (λ who. leb (live who (decode ws .entries)) (limitOf (decode ws) who)) (λ who l. le-leb (live who (decode ws .entries)) 16 (rw (← (charges who l)) (at .within who l)));
+      limits = all-parties (λ who. leb (live who (decode ws .entries)) (limitOf (decode ws) who))
+          (λ who l. le-leb (live who (decode ws .entries)) 16 (rw (← (charges who l)) (at .within who l)));
       charges = charges;
     }

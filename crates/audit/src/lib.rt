@@ -1,4 +1,5 @@
 // The soundness test of a space: one pass over its words, which also counts each writer's entries.
+// Counters are u32, since the board's core has 32 bits.
 ghost use mathlib.Core.Path.{_≡_};
 ghost use Prim.Native.Nat.{_+_, _*_, _≤_};
 ghost use lib.ListN.{length, getD, drop};
@@ -55,7 +56,7 @@ fn holdings_ok(space: &[u64]) -> bool
     true
 }
 
-// S9: the rows past the live ones, each gathered as a whole.
+// S9: the rows past the live ones, each tested as a whole, so that a comparison serves many words.
 fn rest_ok(space: &[u64], n: u32) -> bool
     requires { ⌜ (length (now space) ≡ 1809) × (n ≤ 128) ⌝ }
     ensures { λ r. ⌜ r ≡ all isZero (drop (17 + 14 * n) (now (space .entry))) ⌝ }

@@ -1,4 +1,4 @@
--- A row as the code tests it: its head, then its fields, then the words past them.
+-- A row as the code tests it: its head, then all eight field words as fields, then those past the fields for 0.
 use mathlib.Core.Path.{_≡_, refl, sym, ap, _∙_}
 use mathlib.Core.Logic.{_⊎_, inl, inr}
 use mathlib.Core.Bool.{Bool, true, false, _&&_, and-true, and-false, false≢true}
@@ -16,6 +16,7 @@ use Rattle.rules.specs.Words.{isZero, headOk, rowOk}
 use Rattle.rules.proofs.ListLaws.{bool, and-left, and-right}
 use Rattle.rules.proofs.Loops.{all-append}
 
+-- S6: the head bounds the number of fields
 pub few-fields : (r : List ℕ) → headOk r ≡ true → getD r 5 0 ≤ 8
 few-fields r h = go (bool (leb (getD r 5 0) 8))
   where
@@ -31,19 +32,21 @@ zero-puts (w ∷ l) h =
     let z : w ≡ 0 = eqb-true w 0 (and-left (isZero w) (all isZero l) h) in
     rw z (zero-puts l (and-right (isZero w) (all isZero l) h))
 
+-- where z holds a test can be another that agrees with it there
+and-where : (a b z : Bool) → (z ≡ true → a ≡ b) → (a && z) ≡ (b && z)
+and-where a b true e = rw (e refl)
+and-where a b false e = and-false a ∙ sym (and-false b)
+
 -- where the words past the fields are 0, the fields can be tested with them
 fields-tested : (n : ℕ) (l : List ℕ) → (all putField (take n l) && all isZero (drop n l)) ≡ (all putField l && all isZero (drop n l))
-fields-tested n l = go (bool (all isZero (drop n l)))
-  where
-    whole : all putField l ≡ (all putField (take n l) && all putField (drop n l))
-    whole = ap (all putField) (sym (take-append-drop n l)) ∙ all-append putField (take n l) (drop n l)
+fields-tested n l =
+    and-where (all putField (take n l)) (all putField l) (all isZero (drop n l)) (λ z.
+    sym
+    (ap (all putField) (sym (take-append-drop n l))
+    ∙ all-append putField (take n l) (drop n l)
+    ∙ rw (zero-puts (drop n l) z) (and-true (all putField (take n l)))))
 
-    go : (all isZero (drop n l) ≡ true) ⊎ (all isZero (drop n l) ≡ false)
-        → (all putField (take n l) && all isZero (drop n l)) ≡ (all putField l && all isZero (drop n l))
-    go (inl e) = rw (e, whole, zero-puts (drop n l) e, and-true (all putField (take n l))) (sym (and-true (all putField (take n l))))
-    go (inr e) = rw e (and-false (all putField (take n l)) ∙ sym (and-false (all putField l)))
-
--- the row as the code tests it: all eight field words as fields, and those from the number of fields on for 0
+-- a row of 14 words; its field words are the part that is lent
 module _ (r : List ℕ) (len : length r ≡ 14) where
   pub the-fields : take (length r - 6) (drop 6 r) ≡ drop 6 r
   the-fields = take-all (length r - 6) (drop 6 r) (simp length-drop (omega arith))

@@ -1,4 +1,4 @@
-// One row of the table: whether its words are sound.
+// One row of the table: whether its words are sound. Counters are u32, since the board's core has 32 bits.
 ghost use mathlib.Core.Path.{_≡_};
 ghost use Prim.Native.Nat.{_≤_};
 ghost use lib.ListN.{length, drop};
@@ -6,8 +6,8 @@ ghost use Rattle.rules.specs.Lists.{all};
 ghost use Rattle.rules.specs.Fields.{putField};
 ghost use Rattle.rules.specs.Words.{isZero, headOk, rowOk};
 
-// L4: every word of the row is 0. The bits are gathered, so that one comparison serves many words; the first two go apart,
-// since a small processor can load those at once.
+// L4: every word of the row is 0. Their bits are gathered, so that one comparison serves many words. The first two go apart:
+// past a return in between, the compiler branches on the answer and makes no number of it, which is shorter on the board.
 pub fn blank(row: &[u64]) -> bool
     requires { ⌜ length (now row) ≡ 14 ⌝ }
     ensures { λ r. ⌜ r ≡ all isZero (now (row .entry)) ⌝ }
@@ -66,7 +66,8 @@ fn zero_from(row: &[u64], from: u32) -> bool
     true
 }
 
-// S6, S7: all eight field words are tested as fields, since a word of 0 is one.
+// S6, S7: all eight field words are tested as fields, since those past the fields are 0, and 0 is one. A loop over eight words
+// is shorter than one that the row's own count bounds.
 pub fn row_ok(row: &[u64]) -> bool
     requires { ⌜ length (now row) ≡ 14 ⌝ }
     ensures { λ r. ⌜ r ≡ rowOk (now (row .entry)) ⌝ }

@@ -1,4 +1,4 @@
--- `rest_ok` meets its contract: what is left at r decides as the whole does.
+-- `rest_ok` meets its contract: at each row, the words from there on decide as those past the live rows do.
 use Prim.Native.Nat.{_+_, _-_, _*_}
 use mathlib.Core.Path.{_≡_, refl}
 use borrow.Author.Needs.{needs}
@@ -12,6 +12,13 @@ Inv-loop space n r₀ r = zeroFrom space r ≡ zeroFrom space n
 
 abbrev μ-loop : tie.MeasureT-loop
 μ-loop space n r₀ r = 128 - r
+
+-- the places of the walk, each by its way to the one before it: a row's test, and a turn of the loop
+abbrev test-turn : tie.After-blank Inv-loop μ-loop → tie.At-loop Inv-loop μ-loop
+test-turn c = c .before .before .before
+
+abbrev turn-start : tie.At-loop Inv-loop μ-loop → tie.Start Inv-loop μ-loop
+turn-start c = c .before .before
 
 loop-holds : tie.Need-loop-holds Inv-loop μ-loop
 loop-holds c = refl
@@ -41,10 +48,12 @@ part-blank-end : tie.Need-part-blank-end Inv-loop μ-loop
 part-blank-end c = search needs
 
 blank-requires : tie.Need-blank-requires Inv-loop μ-loop
-blank-requires c κs = length-row (c .before .before .before .before .args .space .now) (17 + 14 * c .before .before .loop .r) (search needs)
+blank-requires c κs = let turn = c .before .before in length-row (turn-start turn .args .space .now) (17 + 14 * turn .loop .r) (search needs)
 
 returns : tie.Need-returns Inv-loop μ-loop
-returns c = rest-stops (c .before .before .before .before .before .before .args .space .now) (c .before .before .before .before .loop .r) (c .before .before .before .before .loop .inv) (c .before .blank .ensures) (c .if1 .taken)
+returns c =
+    let turn = test-turn (c .before) in
+    rest-stops (turn-start turn .args .space .now) (turn .loop .r) (turn .loop .inv) (c .before .blank .ensures) (c .if1 .taken)
 
 add-r : tie.Need-add-r Inv-loop μ-loop
 add-r c = search needs
@@ -53,10 +62,13 @@ loop-less : tie.Need-loop-less Inv-loop μ-loop
 loop-less c = search needs
 
 loop-again : tie.Need-loop-again Inv-loop μ-loop
-loop-again c = rest-goes-on (c .before .before .before .before .before .before .args .space .now) (c .before .before .before .before .loop .r) (c .before .before .before .before .loop .inv) (c .before .blank .ensures) (c .if1 .left)
+loop-again c =
+    let turn = test-turn (c .before) in
+    rest-goes-on (turn-start turn .args .space .now) (turn .loop .r) (turn .loop .inv) (c .before .blank .ensures) (c .if1 .left)
 
 returns-2 : tie.Need-returns-2 Inv-loop μ-loop
-returns-2 c = rest-ends (c .before .before .before .args .space .now) (c .before .loop .r) (c .before .loop .inv) (c .before .before .before .pre .0) (c .loop-test .left)
+returns-2 c =
+    let start = turn-start (c .before) in rest-ends (start .args .space .now) (c .before .loop .r) (c .before .loop .inv) (start .pre .0) (c .loop-test .left)
 
 pub rest-ok-spec : {M : Type 1} → statement M
 rest-ok-spec =

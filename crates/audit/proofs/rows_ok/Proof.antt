@@ -1,4 +1,4 @@
--- `rows_ok` meets its contract: what is counted so far and what is left make the whole.
+-- `rows_ok` meets its contract: at each row, what is counted so far and what is left make the whole.
 use Prim.Native.Nat.{_+_, _-_, _*_, _≤_}
 use mathlib.Core.Path.{_≡_, sym, ap, _∙_}
 use mathlib.Core.Bool.{true}
@@ -12,9 +12,6 @@ use Rattle.rows.proofs.RowLaws.{length-rest, length-row, row-lent}
 use Rattle.audit.proofs.Counting.{Counting, rowsFrom, writerAt, counting-none, counting-more, counting-done, row-bad, too-many, writer-le}
 use Rattle.audit.proofs.rows_ok.Statement.{statement}
 use Rattle.audit.proofs.rows_ok.Tie as tie
-use Rattle.audit.proofs.rows_ok.Reads as reads
-use Rattle.audit.proofs.rows_ok.Lts as lts
-use Rattle.rows.proofs.row_ok.Reads as row-ok-reads
 
 abbrev Inv-loop : tie.InvT-loop
 Inv-loop space n charges₀ r₀ charges r = Counting space charges r
@@ -22,8 +19,41 @@ Inv-loop space n charges₀ r₀ charges r = Counting space charges r
 abbrev μ-loop : tie.MeasureT-loop
 μ-loop space n charges₀ r₀ charges r = n - r
 
+-- the places of the walk, each by its way to the one before it: a turn of the loop, a row's test, and its writer's charge
+abbrev turn-start : tie.At-loop Inv-loop μ-loop → tie.Start Inv-loop μ-loop
+turn-start c = c .before .before .before
+
+abbrev test-turn : tie.After-row-ok Inv-loop μ-loop → tie.At-loop Inv-loop μ-loop
+test-turn c = c .before .before .before
+
+abbrev charge-test : tie.After-slice-known2 Inv-loop μ-loop → tie.Else1 Inv-loop μ-loop
+charge-test c = c .before .before
+
+abbrev charge-turn : tie.After-slice-known2 Inv-loop μ-loop → tie.At-loop Inv-loop μ-loop
+charge-turn c = test-turn (charge-test c .before)
+
+-- at a turn there are eight charges, as at the start
+eight : (c : tie.At-loop Inv-loop μ-loop) → length (c .loop .charges) ≡ length (turn-start c .args .charges .now)
+eight c = c .loop .inv .len ∙ sym (ap length (turn-start c .pre .3) ∙ length-zeros 8)
+
+-- the row is as its test says
+row-is : (c : tie.After-row-ok Inv-loop μ-loop) → rowOk (rowsFrom (turn-start (test-turn c) .args .space .now) (test-turn c .loop .r)) ≡ c .row-ok .result
+row-is c =
+    let turn = test-turn c in sym (row-lent (turn-start turn .args .space .now) (17 + 14 * turn .loop .r) (search needs)) ∙ sym (c .row-ok .ensures)
+
+-- past the test of a row it is good, so its writer is a party
+module _ (c : tie.Else1 Inv-loop μ-loop) where
+  good : rowOk (rowsFrom (turn-start (test-turn (c .before)) .args .space .now) (test-turn (c .before) .loop .r)) ≡ true
+  good = row-is (c .before) ∙ not-false _ (c .if1 .left)
+
+  party : writerAt (turn-start (test-turn (c .before)) .args .space .now) (test-turn (c .before) .loop .r) ≤ 7
+  party =
+      let turn = test-turn (c .before) in
+      let space = turn-start turn .args .space .now in
+      writer-le space (turn .loop .r) (length-rest space (17 + 14 * turn .loop .r) (search needs)) good
+
 loop-holds : tie.Need-loop-holds Inv-loop μ-loop
-loop-holds c = counting-none (c .before .before .args .space .now) (c .before .before .args .charges .now) (c .before .before .pre .3)
+loop-holds c = let start = c .before .before in counting-none (start .args .space .now) (start .args .charges .now) (start .pre .3)
 
 mul-at : tie.Need-mul-at Inv-loop μ-loop
 mul-at c = search needs
@@ -50,25 +80,16 @@ part-row-ok-end : tie.Need-part-row-ok-end Inv-loop μ-loop
 part-row-ok-end c = search needs
 
 row-ok-requires : tie.Need-row-ok-requires Inv-loop μ-loop
-row-ok-requires c κs = length-row (c .before .before .before .before .before .args .space .now) (17 + 14 * c .before .before .loop .r) (search needs)
+row-ok-requires c κs = let turn = c .before .before in length-row (turn-start turn .args .space .now) (17 + 14 * turn .loop .r) (search needs)
 
 same-length : tie.Need-same-length Inv-loop μ-loop
-same-length c = c .before .before .before .before .loop .inv .len ∙ sym (ap length (c .before .before .before .before .before .before .before .pre .3) ∙ length-zeros 8)
+same-length c = eight (test-turn (c .before))
 
 returns : tie.Need-returns Inv-loop μ-loop
 returns c =
-    let at = c .before .before .before .before in
-    let space = at .before .before .before .args .space .now in
-    row-bad space (at .loop .charges) (at .loop .r) (at .loop .inv) (omega arith)
-    (sym (row-lent space (17 + 14 * at .loop .r) (search needs)) ∙ sym (c .before .row-ok .ensures) ∙ not-true _ (c .if1 .taken))
-
--- past the test of a row it is good, so its writer is a party
-module _ (c : lts.Else1 (row-ok-reads.Asked, row-ok-reads.Learnt) reads.Pre reads.Post Inv-loop μ-loop) where
-  good : rowOk (rowsFrom (c .before .before .before .before .before .before .before .args .space .now) (c .before .before .before .before .loop .r)) ≡ true
-  good = sym (row-lent (c .before .before .before .before .before .before .before .args .space .now) (17 + 14 * c .before .before .before .before .loop .r) (search needs)) ∙ sym (c .before .row-ok .ensures) ∙ not-false _ (c .if1 .left)
-
-  party : writerAt (c .before .before .before .before .before .before .before .args .space .now) (c .before .before .before .before .loop .r) ≤ 7
-  party = writer-le (c .before .before .before .before .before .before .before .args .space .now) (c .before .before .before .before .loop .r) (length-rest (c .before .before .before .before .before .before .before .args .space .now) (17 + 14 * c .before .before .before .before .loop .r) (search needs)) good
+    let turn = test-turn (c .before) in
+    row-bad (turn-start turn .args .space .now) (turn .loop .charges) (turn .loop .r) (turn .loop .inv) (omega arith)
+    (row-is (c .before) ∙ not-true _ (c .if1 .taken))
 
 mul-writer : tie.Need-mul-writer Inv-loop μ-loop
 mul-writer c = search needs
@@ -80,24 +101,25 @@ mul-charge : tie.Need-mul-charge Inv-loop μ-loop
 mul-charge c = omega (arith, party (c .before))
 
 slice-read-charge : tie.Need-slice-read-charge Inv-loop μ-loop
-slice-read-charge c = omega (arith, party (c .before .before), c .before .before .before .before .before .before .loop .inv .len)
+slice-read-charge c = omega (arith, party (charge-test c), charge-turn c .loop .inv .len)
 
 same-length-2 : tie.Need-same-length-2 Inv-loop μ-loop
-same-length-2 c = c .before .before .before .before .before .before .before .loop .inv .len ∙ sym (ap length (c .before .before .before .before .before .before .before .before .before .before .pre .3) ∙ length-zeros 8)
+same-length-2 c = eight (charge-turn (c .before))
 
 returns-2 : tie.Need-returns-2 Inv-loop μ-loop
 returns-2 c =
-    let at = c .before .before .before .before .before .before .before in
-    too-many (at .before .before .before .args .space .now) (at .loop .charges) (at .loop .r) (at .loop .inv) (omega arith) (party (c .before .before .before)) (c .if2 .taken)
+    let turn = charge-turn (c .before) in
+    too-many (turn-start turn .args .space .now) (turn .loop .charges) (turn .loop .r) (turn .loop .inv) (omega arith)
+    (party (charge-test (c .before))) (c .if2 .taken)
 
 add-charges : tie.Need-add-charges Inv-loop μ-loop
 add-charges c = omega arith
 
 mul-charges : tie.Need-mul-charges Inv-loop μ-loop
-mul-charges c = omega (arith, party (c .before .before .before))
+mul-charges c = omega (arith, party (charge-test (c .before)))
 
 slice-write-charges : tie.Need-slice-write-charges Inv-loop μ-loop
-slice-write-charges c = omega (arith, party (c .before .before .before), c .before .before .before .before .before .before .before .loop .inv .len)
+slice-write-charges c = omega (arith, party (charge-test (c .before)), charge-turn (c .before) .loop .inv .len)
 
 add-r : tie.Need-add-r Inv-loop μ-loop
 add-r c = search needs
@@ -107,14 +129,16 @@ loop-less c = search needs
 
 loop-again : tie.Need-loop-again Inv-loop μ-loop
 loop-again c =
-    let at = c .before .before .before .before .before .before .before in
-    counting-more (at .before .before .before .args .space .now) (at .loop .charges) (at .loop .r) (at .loop .inv) (omega arith) (party (c .before .before .before)) (good (c .before .before .before)) (c .if2 .left)
+    let turn = charge-turn (c .before) in
+    let test = charge-test (c .before) in
+    counting-more (turn-start turn .args .space .now) (turn .loop .charges) (turn .loop .r) (turn .loop .inv) (omega arith)
+    (party test) (good test) (c .if2 .left)
 
 same-length-3 : tie.Need-same-length-3 Inv-loop μ-loop
-same-length-3 c = c .before .loop .inv .len ∙ sym (ap length (c .before .before .before .before .pre .3) ∙ length-zeros 8)
+same-length-3 c = eight (c .before)
 
 returns-3 : tie.Need-returns-3 Inv-loop μ-loop
-returns-3 c = counting-done (c .before .before .before .before .args .space .now) (c .before .loop .charges) (c .before .loop .r) (c .before .loop .inv) (omega arith)
+returns-3 c = let turn = c .before in counting-done (turn-start turn .args .space .now) (turn .loop .charges) (turn .loop .r) (turn .loop .inv) (omega arith)
 
 pub rows-ok-spec : {M : Type 1} → statement M
 rows-ok-spec =

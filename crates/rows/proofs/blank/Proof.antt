@@ -1,8 +1,15 @@
--- `blank` meets its contract: the gathered words decide as the row does.
+-- `blank` meets its contract: the first two words decide where they are not 0, and else the other twelve, gathered into one.
 use borrow.Author.Needs.{needs}
-use Rattle.rows.proofs.Zero.{two-stop, twelve-left}
+use Rattle.rows.proofs.Zero.{two-decide, twelve-decide}
 use Rattle.rows.proofs.blank.Statement.{statement}
 use Rattle.rows.proofs.blank.Tie as tie
+
+-- the places of the walk, each by its way to the one before it: where the first two words are read, and where they are 0
+abbrev two-start : tie.After-shared-slice-known2 → tie.Start
+two-start c = c .before .before
+
+abbrev rest-two : tie.After-shared-slice-known14 → tie.Else1
+rest-two c = c .before .before .before .before .before .before .before .before .before .before .before .before
 
 shared-slice-read-if1 : tie.Need-shared-slice-read-if1
 shared-slice-read-if1 c = search needs
@@ -11,7 +18,7 @@ shared-slice-read-if1-2 : tie.Need-shared-slice-read-if1-2
 shared-slice-read-if1-2 c = search needs
 
 returns : tie.Need-returns
-returns c = two-stop (c .before .before .before .args .row .now) (c .before .before .before .pre) (c .if1 .taken)
+returns c = let start = two-start (c .before) in two-decide (start .args .row .now) (start .pre) (c .if1 .taken)
 
 shared-slice-read-head : tie.Need-shared-slice-read-head
 shared-slice-read-head c = search needs
@@ -50,7 +57,10 @@ shared-slice-read-rest-8 : tie.Need-shared-slice-read-rest-8
 shared-slice-read-rest-8 c = search needs
 
 returns-2 : tie.Need-returns-2
-returns-2 c = let start = c .before .before .before .before .before .before .before .before .before .before .before .before .before .before .before in twelve-left (start .args .row .now) (start .pre) (c .before .before .before .before .before .before .before .before .before .before .before .before .if1 .left)
+returns-2 c =
+    let two = rest-two c in
+    let start = two-start (two .before) in
+    twelve-decide (start .args .row .now) (start .pre) (two .if1 .left)
 
 pub blank-spec : {M : Type 1} → statement M
 blank-spec =
