@@ -15,21 +15,22 @@ use Rattle.rules.specs.Fields.{fieldAgrees}
 use Rattle.rules.specs.Matching.{pair, Entry, pairFor, fieldsAgree, matches}
 use Rattle.rules.specs.Words.{entryAt, entriesAt, decode, rowOk, rowsOk, sound}
 use Rattle.rules.proofs.ListLaws.{bool, and-left, and-right}
-use Rattle.rules.proofs.Rows.{EntryOk}
+use Rattle.rules.proofs.Rows.{PairOk, EntryOk}
 use Rattle.rules.proofs.Back.{SoundFacts, sound-facts, row-back}
 use Rattle.search.specs.Place.{meant}
 use Rattle.search.specs.Pairs.{offset, SmallAt, pairAt}
 use Rattle.search.specs.declared.Op.{Op}
 use Rattle.search.specs.declared.Op.the-variants.{Reading, Taking}
 
--- L4: the entry of row r
+-- L4: the entry of the row that begins at that word
 abbrev pub entryOn : List ℕ → ℕ → Entry
-entryOn ws r = entryAt (drop (17 + 14 * r) ws)
+entryOn ws at = entryAt (drop at ws)
 
-pub record LiveRow (ws : List ℕ) (r : ℕ) : Type 0 where
-  pub split : drop r (decode ws .entries) ≡ entryOn ws r ∷ drop (r + 1) (decode ws .entries)
-  pub ok : EntryOk (entryOn ws r)
-  pub count : length (entryOn ws r .fields) ≡ getD ws (17 + 14 * r + 5) 0
+-- row r is live and begins at that word
+pub record LiveRow (ws : List ℕ) (r at : ℕ) : Type 0 where
+  pub split : drop r (decode ws .entries) ≡ entryOn ws at ∷ drop (r + 1) (decode ws .entries)
+  pub ok : EntryOk (entryOn ws at)
+  pub count : length (entryOn ws at .fields) ≡ getD ws (at + 5) 0
 
 rows-at : (n : ℕ) (rows : List ℕ) (r : ℕ) → r < n → rowsOk n rows ≡ true
     → (drop r (entriesAt n rows) ≡ entryAt (drop (14 * r) rows) ∷ drop (suc r) (entriesAt n rows)) × (rowOk (drop (14 * r) rows) ≡ true)
@@ -41,19 +42,18 @@ rows-at (suc n) rows (suc r) l h =
     let e : drop (14 * r) (drop 14 rows) ≡ drop (14 * suc r) rows = drop-drop (14 * r) 14 rows ∙ ap (λ (n : ℕ). drop n rows) a in
     (rw e at (k .0), rw e at (k .1))
 
-pub live-row : (ws : List ℕ) (r : ℕ) → sound ws ≡ true → r < getD ws 0 0 → LiveRow ws r
+pub live-row : (ws : List ℕ) (r : ℕ) {at : ℕ} → at ≡ 17 + 14 * r → sound ws ≡ true → r < getD ws 0 0 → LiveRow ws r at
 unfolding decode
-live-row ws r s l =
+live-row ws r {at} here s l =
     let f : SoundFacts ws = sound-facts ws s in
-    let fits : 17 + 14 * r + 14 ≤ length ws = omega (arith, f .len, f .count) in
-    let e : drop (14 * r) (drop 17 ws) ≡ drop (17 + 14 * r) ws = drop-drop (14 * r) 17 ws in
+    let e : drop (14 * r) (drop 17 ws) ≡ drop at ws = drop-drop (14 * r) 17 ws ∙ ap (λ (k : ℕ). drop k ws) (sym here) in
     let k = rows-at (getD ws 0 0) (drop 17 ws) r l (f .rows) in
-    let row : rowOk (drop (17 + 14 * r) ws) ≡ true = rw e at (k .1) in
-    let b = row-back (drop (17 + 14 * r) ws) (rw length-drop (omega arith)) row in
+    let row : rowOk (drop at ws) ≡ true = rw e at (k .1) in
+    let b = row-back (drop at ws) (rw length-drop (omega (arith, f .len, f .count))) row in
     record {
       split = rw (add-one, ← e) (k .0);
       ok = b .0;
-      count = ap (λ (row : List ℕ). getD row 5 0) (b .1) ∙ getD-take 14 (drop (17 + 14 * r) ws) 5 0 (omega arith) ∙ getD-drop (17 + 14 * r) ws 5 0;
+      count = ap (λ (row : List ℕ). getD row 5 0) (b .1) ∙ getD-take 14 (drop at ws) 5 0 (omega arith) ∙ getD-drop at ws 5 0;
     }
 
 -- ---- when its entry matches
@@ -81,56 +81,56 @@ pub offset-le : (op : Op) (n : ℕ) → n ≡ offset op → n ≤ 3
 offset-le Reading n e = omega arith
 offset-le Taking n e = omega arith
 
-module _ {ws : List ℕ} {r : ℕ} (row : LiveRow ws r) where
-  pair-on : (op : Op) → (pairFor (meant op) (entryOn ws r) .partition ≡ getD ws (17 + 14 * r + offset op) 0)
-      × (pairFor (meant op) (entryOn ws r) .key ≡ getD ws (17 + 14 * r + (offset op + 1)) 0)
-      × (pairFor (meant op) (entryOn ws r) .key ≤ 62)
-  pair-on Reading = (getD-drop (17 + 14 * r) ws 1 0, getD-drop (17 + 14 * r) ws 2 0, row .ok .readOk .keyOk)
-  pair-on Taking = (getD-drop (17 + 14 * r) ws 3 0, getD-drop (17 + 14 * r) ws 4 0, row .ok .takeOk .keyOk)
+module _ {ws : List ℕ} {r at : ℕ} (row : LiveRow ws r at) where
+  -- L4, S6: the pair that the operation goes by, and its words
+  pair-on : (op : Op) → (pairFor (meant op) (entryOn ws at) .partition ≡ getD ws (at + offset op) 0)
+      × (pairFor (meant op) (entryOn ws at) .key ≡ getD ws (at + (offset op + 1)) 0)
+      × PairOk (pairFor (meant op) (entryOn ws at))
+  pair-on Reading = (getD-drop at ws 1 0, getD-drop at ws 2 0, row .ok .readOk)
+  pair-on Taking = (getD-drop at ws 3 0, getD-drop at ws 4 0, row .ok .takeOk)
 
   -- S6: the words that the search tests first are in range
-  pub small-on : {at : ℕ} → at ≡ 17 + 14 * r → (op : Op) (o : ℕ) → o ≡ offset op → SmallAt ws at o
-  small-on p Reading o e =
-      let q = pair-on Reading in
-      rw (p, e) (record { count = omega (arith, row .ok .few, row .count); partition = omega (arith, row .ok .readOk .partitionOk, q .0); key = omega (arith, q .2, q .1) })
-  small-on p Taking o e =
-      let q = pair-on Taking in
-      rw (p, e) (record { count = omega (arith, row .ok .few, row .count); partition = omega (arith, row .ok .takeOk .partitionOk, q .0); key = omega (arith, q .2, q .1) })
+  pub small-on : (op : Op) (o : ℕ) → o ≡ offset op → SmallAt ws at o
+  small-on op o e =
+      let q = pair-on op in
+      rw e
+      (record {
+        count = omega (arith, row .ok .few, row .count);
+        partition = omega (arith, q .2 .partitionOk, q .0);
+        key = omega (arith, q .2 .keyOk, q .1);
+      })
 
   -- M1: a row that passes the first test has as many fields
-  pub count-on : {at : ℕ} → at ≡ 17 + 14 * r → (o p k n : ℕ) (x : Bool) → x ≡ pairAt ws at o p k n → x ≡ true → length (entryOn ws r .fields) ≡ n
+  pub count-on : (o p k n : ℕ) (x : Bool) → x ≡ pairAt ws at o p k n → x ≡ true → length (entryOn ws at .fields) ≡ n
   unfolding pairAt
-  count-on {at} a o p k n x e h =
-      row .count
-      ∙ ap (λ (w : ℕ). getD ws (w + 5) 0) (sym a)
-      ∙ eqb-true (getD ws (at + 5) 0) n (and-left (eqb (getD ws (at + 5) 0) n) _ (sym e ∙ h))
+  count-on o p k n x e h = row .count ∙ eqb-true (getD ws (at + 5) 0) n (and-left (eqb (getD ws (at + 5) 0) n) _ (sym e ∙ h))
 
   -- M1 to M4, as the search goes about them: the pair, then the fields
-  pub match-on : {at : ℕ} → at ≡ 17 + 14 * r → (op : Op) (o p k : ℕ) (t : List ℕ) (x b d : Bool) → o ≡ offset op → k ≤ 62 → x ≡ pairAt ws at o p k (length t) → x ≡ b
-      → fieldsAgree t (entryOn ws r .fields) ≡ d → matches (meant op) (pair p (coStored k)) t (entryOn ws r) ≡ (b && d)
+  pub match-on : (op : Op) (o p k : ℕ) (t : List ℕ) (x b d : Bool) → o ≡ offset op → k ≤ 62 → x ≡ pairAt ws at o p k (length t) → x ≡ b
+      → fieldsAgree t (entryOn ws at .fields) ≡ d → matches (meant op) (pair p (coStored k)) t (entryOn ws at) ≡ (b && d)
   unfolding matches pairAt
-  match-on a op o p k t x b d e l h y g =
+  match-on op o p k t x b d e l h y g =
       let q = pair-on op in
-      let there : x ≡ pairAt ws (17 + 14 * r) o p k (length t) = h ∙ ap (λ (w : ℕ). pairAt ws w o p k (length t)) a in
-      let key : ℕ = pairFor (meant op) (entryOn ws r) .key in
-      fields-last (eqb (length t) (length (entryOn ws r .fields))) (fieldsAgree t (entryOn ws r .fields)) _
-      ∙ rw (co-eqb key k (q .2) l, q .0, q .1, ← e, eqb-comm (length t) (length (entryOn ws r .fields)), row .count, ← there, y, g)
+      let key : ℕ = pairFor (meant op) (entryOn ws at) .key in
+      fields-last (eqb (length t) (length (entryOn ws at .fields))) (fieldsAgree t (entryOn ws at .fields)) _
+      ∙ rw (co-eqb key k (q .2 .keyOk) l, q .0, q .1, ← e, eqb-comm (length t) (length (entryOn ws at .fields)), row .count, ← h, y, g)
 
-  field-on : (i : ℕ) → i < length (entryOn ws r .fields) → getD (entryOn ws r .fields) i 0 ≡ getD ws (17 + 14 * r + (6 + i)) 0
+  -- L4: field i and its word
+  field-on : (i : ℕ) → i < length (entryOn ws at .fields) → getD (entryOn ws at .fields) i 0 ≡ getD ws (at + (6 + i)) 0
   field-on i l =
-      let word : getD (drop (17 + 14 * r) ws) 5 0 ≡ getD ws (17 + 14 * r + 5) 0 = getD-drop (17 + 14 * r) ws 5 0 in
-      let below : i < getD (drop (17 + 14 * r) ws) 5 0 = omega (arith, row .count) in
-      getD-take (getD (drop (17 + 14 * r) ws) 5 0) (drop 6 (drop (17 + 14 * r) ws)) i 0 below
-      ∙ getD-drop 6 (drop (17 + 14 * r) ws) i 0
-      ∙ getD-drop (17 + 14 * r) ws (6 + i) 0
+      let word : getD (drop at ws) 5 0 ≡ getD ws (at + 5) 0 = getD-drop at ws 5 0 in
+      let below : i < getD (drop at ws) 5 0 = omega (arith, row .count) in
+      getD-take (getD (drop at ws) 5 0) (drop 6 (drop at ws)) i 0 below
+      ∙ getD-drop 6 (drop at ws) i 0
+      ∙ getD-drop at ws (6 + i) 0
 
   -- M2: what is left of the fields at i is one field and what is left at i + 1
-  pub fields-on : {at : ℕ} → at ≡ 17 + 14 * r → (t : List ℕ) (i : ℕ) (x b : Bool) → i < length t → length (entryOn ws r .fields) ≡ length t
+  pub fields-on : (t : List ℕ) (i : ℕ) (x b : Bool) → i < length t → length (entryOn ws at .fields) ≡ length t
       → x ≡ fieldAgrees (getD t i 0) (getD ws (at + (6 + i)) 0) → x ≡ b
-      → fieldsAgree (drop i t) (drop i (entryOn ws r .fields)) ≡ (b && fieldsAgree (drop (i + 1) t) (drop (i + 1) (entryOn ws r .fields)))
-  fields-on a t i x b l n h y =
-      let k : i < length (entryOn ws r .fields) = omega arith in
-      rw (add-one, ← y, h, a, ← (field-on i k), drop-cons t i 0, drop-cons (entryOn ws r .fields) i 0)
+      → fieldsAgree (drop i t) (drop i (entryOn ws at .fields)) ≡ (b && fieldsAgree (drop (i + 1) t) (drop (i + 1) (entryOn ws at .fields)))
+  fields-on t i x b l n h y =
+      let k : i < length (entryOn ws at .fields) = omega arith in
+      rw (add-one, ← y, h, ← (field-on i k), drop-cons t i 0, drop-cons (entryOn ws at .fields) i 0)
 
 pub fields-end : (t fs : List ℕ) (i : ℕ) → length t ≤ i → fieldsAgree (drop i t) (drop i fs) ≡ true
 fields-end t fs i l = rw (drop-of-length-le t l)

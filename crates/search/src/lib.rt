@@ -1,4 +1,5 @@
-// The search for the oldest entry that matches a template.
+// The search for the oldest entry that matches a template. Counters, and words that a sound space keeps small, are u32,
+// since the board's core has 32 bits.
 ghost use mathlib.Core.Path.{_≡_};
 ghost use mathlib.Core.Bool.{true};
 ghost use Prim.Native.Nat.{_+_, _≤_};
@@ -21,7 +22,8 @@ pub enum Found {
     Nothing,
 }
 
-// M5: left at the first row whose fields all agree, and each row at the first field that does not.
+// M5: left at the first row whose fields all agree, and each row at the first field that does not. The row's first word
+// goes along with the row, which spares a product for each.
 pub fn search(space: &[u64], op: Op, partition: u32, cokey: u32, template: &[u64]) -> Found
     requires { ⌜ (sound (now space) ≡ true) × (cokey ≤ 62) × (length (now template) ≤ 8) ⌝ }
     ensures { λ r. ⌜ r ≡ place (matches (meant op) (pair partition (coStored cokey)) (now (template .entry))) (decode (now (space .entry)) .entries) ⌝ }
@@ -66,7 +68,7 @@ fn pair_of(op: Op) -> usize
     }
 }
 
-// M1, M3, M4: the row at that word has the count, and the pair. In a sound space these words are small.
+// M1, M3, M4: the row at that word has the count, and the pair.
 fn pair_agrees(
     space: &[u64],
     at: usize,

@@ -125,7 +125,7 @@ fn seek(
         return Sought::Refused(number);
     }
     let cokey = words::stored_co_key(key);
-    let Found::At(row) = search::search(space, op, partition, cokey as u32, fields) else {
+    let Found::At(row) = search::search(space, op, partition, cokey, fields) else {
         return Sought::Nothing;
     };
     let n = fields.len();

@@ -122,11 +122,11 @@ pub fn stored_key(k: i32) -> u64
     (k + 31) as u64
 }
 
-// N4, N5
-pub fn stored_co_key(k: i32) -> u64
+// N4, N5: a u32, since the search compares 32 bits.
+pub fn stored_co_key(k: i32) -> u32
     requires { ⌜ keyInRange k ≡ true ⌝ }
     ensures { λ r. ⌜ r ≡ stored (coKey k) ⌝ }
 {
     let co = -k;
-    (co + 31) as u64
+    (co + 31) as u32
 }

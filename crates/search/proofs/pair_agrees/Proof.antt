@@ -1,4 +1,4 @@
--- The pair at a row is tested as `pairAt` says.
+-- `pair_agrees` meets its contract: the three words are in range, so that 32 bits of each are the word that `pairAt` tests.
 use Rattle.search.specs.Pairs.{pairAt}
 use mathlib.Core.Path.{refl}
 use native.Mathlib.Omega.{arith}

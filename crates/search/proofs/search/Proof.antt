@@ -1,4 +1,4 @@
--- The search answers the place of the oldest match. At a row, no older entry has matched; at a field, those before it agree.
+-- `search` meets its contract: at a row no older entry has matched, and at a field those before it agree.
 use mathlib.Core.Path.{_≡_, refl, sym, _∙_}
 use mathlib.Core.Logic.{⊎-elim}
 use mathlib.Core.Bool.{Bool, true, false}
@@ -36,16 +36,16 @@ record Rows (space : List ℕ) (partition cokey : ℕ) (template : List ℕ) (pa
   bound : row ≤ live
   here : word ≡ 17 + 14 * row
   older : (op : Op) → pair ≡ offset op
-      → place (sought op partition cokey template) (decode space .entries) ≡ past row (place (sought op partition cokey template) (drop row (decode space .entries)))
+      → place (sought op partition cokey template) (decode space .entries)
+      ≡ past row (place (sought op partition cokey template) (drop row (decode space .entries)))
 
 -- at a field: those before it agree
 record Fields (space template : List ℕ) (row word i : ℕ) : Type 0 where
-  live : LiveRow space row
-  same : length (entryOn space row .fields) ≡ length template
+  live : LiveRow space row word
+  same : length (entryOn space word .fields) ≡ length template
   few : length template ≤ 8
-  here : word ≡ 17 + 14 * row
   bound : i ≤ length template
-  rest : fieldsAgree template (entryOn space row .fields) ≡ fieldsAgree (drop i template) (drop i (entryOn space row .fields))
+  rest : fieldsAgree template (entryOn space word .fields) ≡ fieldsAgree (drop i template) (drop i (entryOn space word .fields))
 
 abbrev Inv-fields : tie.InvT-fields
 Inv-fields space partition cokey template pair live count row word at i₀ i = Fields space template row word i
@@ -59,33 +59,60 @@ Inv-rows space partition cokey template pair live count row₀ word₀ row word 
 abbrev μ-rows : tie.MeasureT-rows
 μ-rows space partition cokey template pair live count row₀ word₀ row word = live - row
 
+-- the places of the walk, each by its way to the one before it: the pair's offset, a row, its pair's test, a field's test,
+-- and where the loop over the fields is left
+abbrev pair-start : tie.After-pair-of Inv-fields μ-fields Inv-rows μ-rows → tie.Start Inv-fields μ-fields Inv-rows μ-rows
+pair-start c = c .before .before .before
+
+abbrev row-pair : tie.At-rows Inv-fields μ-fields Inv-rows μ-rows → tie.After-pair-of Inv-fields μ-fields Inv-rows μ-rows
+row-pair c = c .before .before
+
+abbrev row-start : tie.At-rows Inv-fields μ-fields Inv-rows μ-rows → tie.Start Inv-fields μ-fields Inv-rows μ-rows
+row-start c = pair-start (row-pair c)
+
+abbrev test-row : tie.After-pair-agrees Inv-fields μ-fields Inv-rows μ-rows → tie.In-rows Inv-fields μ-fields Inv-rows μ-rows
+test-row c = c .before
+
+abbrev field-turn : tie.After-field-agrees Inv-fields μ-fields Inv-rows μ-rows → tie.In-fields Inv-fields μ-fields Inv-rows μ-rows
+field-turn c = c .before .before .before
+
+abbrev left-row : tie.Left-fields Inv-fields μ-fields Inv-rows μ-rows → tie.At-rows Inv-fields μ-fields Inv-rows μ-rows
+left-row c = test-row (c .before .before .before) .before
+
 -- all fields agree exactly when the loop over them has come to their end
 agreed : (c : tie.Left-fields Inv-fields μ-fields Inv-rows μ-rows)
-    → fieldsAgree (c .before .before .before .before .before .before .before .before .before .before .args .template .now) (entryOn (c .before .before .before .before .before .before .before .before .before .before .args .space .now) (c .before .before .before .before .before .rows .row) .fields)
-    ≡ eqb (c .before .fields .i) (length (c .before .before .before .before .before .before .before .before .before .before .args .template .now))
+    → fieldsAgree (row-start (left-row c) .args .template .now) (entryOn (row-start (left-row c) .args .space .now) (left-row c .rows .word) .fields)
+    ≡ eqb (c .before .fields .i) (length (row-start (left-row c) .args .template .now))
 agreed c =
     let inv = c .before .fields .inv in
     inv .rest
     ∙ ⊎-elim
     (λ w. fields-end _ _ _ (w .left) ∙ sym (eq-eqb _ _ (le-antisymm (inv .bound) (w .left))))
-    (λ w. fields-on (inv .live) (inv .here) _ _ _ false (w .0 .taken) (inv .same) (w .3 .ensures) (not-true _ (w .4 .taken)) ∙ sym (ne-eqb _ _ (ne-of-lt (w .0 .taken))))
+    (λ w.
+    fields-on (inv .live) _ _ _ false (w .0 .taken) (inv .same) (w .3 .ensures) (not-true _ (w .4 .taken))
+    ∙ sym (ne-eqb _ _ (ne-of-lt (w .0 .taken))))
     (c .fields-test .came)
+
+-- a row that is looked at is live
+live-at : (c : tie.In-rows Inv-fields μ-fields Inv-rows μ-rows)
+    → LiveRow (row-start (c .before) .args .space .now) (c .before .rows .row) (c .before .rows .word)
+live-at c = let inv = c .before .rows .inv in live-row _ _ (inv .here) (inv .isSound) (c .rows-test .taken)
 
 pair-of-requires : tie.Need-pair-of-requires Inv-fields μ-fields Inv-rows μ-rows
 pair-of-requires c κs = search needs
 
 shared-slice-read-live : tie.Need-shared-slice-read-live Inv-fields μ-fields Inv-rows μ-rows
-shared-slice-read-live c = let f = sound-facts _ (c .before .before .before .before .pre .0) in omega (arith, f .len)
+shared-slice-read-live c = omega (arith, sound-facts _ (pair-start (c .before) .pre .0) .len)
 
 cast-live : tie.Need-cast-live Inv-fields μ-fields Inv-rows μ-rows
-cast-live c = let f = sound-facts _ (c .before .before .before .before .pre .0) in omega (arith, f .count)
+cast-live c = omega (arith, sound-facts _ (pair-start (c .before) .pre .0) .count)
 
 cast-count : tie.Need-cast-count Inv-fields μ-fields Inv-rows μ-rows
 cast-count c = search needs
 
 rows-holds : tie.Need-rows-holds Inv-fields μ-fields Inv-rows μ-rows
 rows-holds c =
-    let start = c .before .before .before .before in
+    let start = pair-start (c .before) in
     let f = sound-facts _ (start .pre .0) in
     record {
       isSound = start .pre .0;
@@ -103,15 +130,13 @@ cast-at c = search needs
 
 pair-agrees-requires : tie.Need-pair-agrees-requires Inv-fields μ-fields Inv-rows μ-rows
 pair-agrees-requires c κs =
-    let live = live-row _ _ (c .before .rows .inv .isSound) (c .rows-test .taken) in
-    (search needs, search needs, small-on live (c .before .rows .inv .here) (c .before .before .before .before .before .before .args .op) _ (c .before .before .before .pair-of .ensures))
+    let pair = row-pair (c .before) in (search needs, search needs, small-on (live-at c) (pair-start pair .args .op) _ (pair .pair-of .ensures))
 
 fields-holds : tie.Need-fields-holds Inv-fields μ-fields Inv-rows μ-rows
 fields-holds c =
-    let inv = c .before .before .before .rows .inv in
-    let row = live-row _ _ (inv .isSound) (c .before .before .rows-test .taken) in
-    let same = count-on row (inv .here) _ _ _ _ _ (c .before .pair-agrees .ensures) (c .if1 .taken) in
-    record { live = row; same = same; few = rw same at (row .ok .few); here = inv .here; bound = omega arith; rest = refl }
+    let row = live-at (test-row (c .before)) in
+    let same = count-on row _ _ _ _ _ (c .before .pair-agrees .ensures) (c .if1 .taken) in
+    record { live = row; same = same; few = rw same at (row .ok .few); bound = omega arith; rest = refl }
 
 cast-k : tie.Need-cast-k Inv-fields μ-fields Inv-rows μ-rows
 cast-k c = search needs
@@ -147,14 +172,15 @@ fields-less c = search needs
 
 fields-again : tie.Need-fields-again Inv-fields μ-fields Inv-rows μ-rows
 fields-again c =
-    let inv = c .before .before .before .before .before .fields .inv in
+    let turn = field-turn (c .before) in
+    let inv = turn .before .fields .inv in
     record {
       live = inv .live;
       same = inv .same;
       few = inv .few;
-      here = inv .here;
       bound = omega arith;
-      rest = inv .rest ∙ fields-on (inv .live) (inv .here) _ _ _ true (c .before .before .before .before .fields-test .taken) (inv .same) (c .before .field-agrees .ensures) (not-false _ (c .if2 .left));
+      rest = inv .rest
+          ∙ fields-on (inv .live) _ _ _ true (turn .fields-test .taken) (inv .same) (c .before .field-agrees .ensures) (not-false _ (c .if2 .left));
     }
 
 add-row : tie.Need-add-row Inv-fields μ-fields Inv-rows μ-rows
@@ -168,8 +194,9 @@ rows-less c = search needs
 
 rows-again : tie.Need-rows-again Inv-fields μ-fields Inv-rows μ-rows
 rows-again c =
-    let inv = c .before .before .before .rows .inv in
-    let live = live-row _ _ (inv .isSound) (c .before .before .rows-test .taken) in
+    let turn = test-row (c .before) in
+    let inv = turn .before .rows .inv in
+    let live = live-at turn in
     record {
       isSound = inv .isSound;
       size = inv .size;
@@ -185,8 +212,8 @@ rows-again c =
           (λ w.
           let left : tie.Left-fields Inv-fields μ-fields Inv-rows μ-rows =
           record { before = record { before = record { before = c .before; if1 = w .0 }; fields = w .1 }; fields-test = w .2 } in
-          match-on live (inv .here) op _ _ _ _ _ true false e (inv .keyBound) (c .before .pair-agrees .ensures) (w .0 .taken) (agreed left ∙ ne-eqb _ _ (w .3 .left)))
-          (λ w. match-on live (inv .here) op _ _ _ _ _ false _ e (inv .keyBound) (c .before .pair-agrees .ensures) (w .left) refl)
+          match-on live op _ _ _ _ _ true false e (inv .keyBound) (c .before .pair-agrees .ensures) (w .0 .taken) (agreed left ∙ ne-eqb _ _ (w .3 .left)))
+          (λ w. match-on live op _ _ _ _ _ false _ e (inv .keyBound) (c .before .pair-agrees .ensures) (w .left) refl)
           (c .if1 .came));
     }
 
@@ -195,30 +222,28 @@ cast-t32 c = search needs
 
 returns : tie.Need-returns Inv-fields μ-fields Inv-rows μ-rows
 returns c =
-    let start = c .before .before .before .before .before .before .before in
-    let inv = c .before .before .rows .inv in
-    let e = c .before .before .before .before .pair-of .ensures in
+    let row = c .before .before in
+    let inv = row .rows .inv in
+    let start = row-start row in
+    let e = row-pair row .pair-of .ensures in
     ⊎-elim
     (λ w. absurd (omega arith))
     (λ w.
-    let left : tie.Left-fields Inv-fields μ-fields Inv-rows μ-rows =
-    record {
-      before = record { before = record { before = record { before = record { before = c .before .before; rows-test = w .0 }; pair-agrees = w .1 }; if1 = w .2 }; fields = w .3 };
-      fields-test = w .4;
-    } in
+    let passed : tie.Then1 Inv-fields μ-fields Inv-rows μ-rows =
+    record { before = record { before = record { before = row; rows-test = w .0 }; pair-agrees = w .1 }; if1 = w .2 } in
+    let left : tie.Left-fields Inv-fields μ-fields Inv-rows μ-rows = record { before = record { before = passed; fields = w .3 }; fields-test = w .4 } in
     let live = w .3 .inv .live in
     sym
     (inv .older (start .args .op) e
     ∙ hit _ _ _ _ _ (live .split)
-    (match-on live (inv .here) (start .args .op) _ _ _ (start .args .template .now) _ true true e (inv .keyBound) (w .1 .ensures) (w .2 .taken)
+    (match-on live (start .args .op) _ _ _ (start .args .template .now) _ true true e (inv .keyBound) (w .1 .ensures) (w .2 .taken)
     (agreed left ∙ eq-eqb _ _ (w .5 .taken)))))
     (c .before .rows-test .came)
 
 returns-2 : tie.Need-returns-2 Inv-fields μ-fields Inv-rows μ-rows
 returns-2 c =
-    let inv = c .before .before .rows .inv in
-    let op = c .before .before .before .before .before .before .before .args .op in
-    sym (inv .older op (c .before .before .before .before .pair-of .ensures) ∙ over _ _ _ _ (decode-len _) (c .if4 .left))
+    let row = c .before .before in
+    sym (row .rows .inv .older (row-start row .args .op) (row-pair row .pair-of .ensures) ∙ over _ _ _ _ (decode-len _) (c .if4 .left))
 
 pub search-spec : {M : Type 1} → statement M
 search-spec =

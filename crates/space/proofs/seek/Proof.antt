@@ -30,6 +30,44 @@ use borrow.Author.Needs.{needs}
 use Rattle.space.proofs.seek.Statement.{statement}
 use Rattle.space.proofs.seek.Tie as tie
 
+-- the places of the walk, each by its way to the one before it: the verdict, the co-key, the search, the fields copied out,
+-- and their names held
+abbrev verdict-start : tie.After-of-seek → tie.Start
+verdict-start c = c .before .before .before .before .before
+
+abbrev refused-verdict : tie.After-known-told → tie.After-of-seek
+refused-verdict c = c .before .before .before
+
+abbrev passed-verdict : tie.After-enum-told → tie.After-of-seek
+passed-verdict c = c .before .before
+
+abbrev co-key-passed : tie.After-stored-co-key → tie.After-enum-told
+co-key-passed c = c .before
+
+abbrev search-co-key : tie.After-search → tie.After-stored-co-key
+search-co-key c = c .before .before
+
+abbrev nothing-search : tie.After-enum-told2 → tie.After-search
+nothing-search c = c .before .before
+
+abbrev found-search : tie.After-known-told2 → tie.After-search
+found-search c = c .before .before .before
+
+abbrev copied-found : tie.After-copy-out → tie.After-known-told2
+copied-found c = c .before .before .before
+
+abbrev held-copied : tie.After-hold-names-arg2 → tie.After-copy-out
+held-copied c = c .before .before .before .before
+
+abbrev passed-start : tie.After-enum-told → tie.Start
+passed-start c = verdict-start (passed-verdict c)
+
+abbrev search-passed : tie.After-search → tie.After-enum-told
+search-passed c = co-key-passed (search-co-key c)
+
+abbrev found-passed : tie.After-known-told2 → tie.After-enum-told
+found-passed c = search-passed (found-search c)
+
 -- the call's table by its key, its pair, the place of its oldest match, and what it comes to
 tableOf : tie.Start → ℤ → Table
 tableOf s k =
@@ -48,34 +86,41 @@ placeOf s = let a = s .args in place (matches (meant (a .op)) (storedPair (pairO
 abbrev soughtOf : tie.Start → Sought
 soughtOf s = let a = s .args in soughtIn (a .space .now) (meant (a .op)) (a .party) (pairOf s) (a .fields .now) (length (a .result .now))
 
-verdict-is : (c : tie.After-of-seek) → c .of-seek .result ≡ verdict (whole (c .before .before .before .before .before))
+verdict-is : (c : tie.After-of-seek) → c .of-seek .result ≡ verdict (whole (verdict-start c))
 unfolding whole tableOf
-verdict-is c = c .of-seek .ensures ∙ ap (λ (k : ℤ). verdict (tableOf (c .before .before .before .before .before) k)) (toZ-ofZ {w = w32} (c .before .before .before .before .before .fits .key))
+verdict-is c = c .of-seek .ensures ∙ ap (λ (k : ℤ). verdict (tableOf (verdict-start c) k)) (toZ-ofZ {w = w32} (verdict-start c .fits .key))
 
-no-refusal : (c : tie.After-enum-told) → firstThatApplies (whole (c .before .before .before .before .before .before .before)) ≡ none
-no-refusal c = verdict-passed (whole (c .before .before .before .before .before .before .before)) (sym (c .enum-told .given .1) ∙ verdict-is (c .before .before))
+module _ (c : tie.After-enum-told) where
+  no-refusal : firstThatApplies (whole (passed-start c)) ≡ none
+  no-refusal = verdict-passed (whole (passed-start c)) (sym (c .enum-told .given .1) ∙ verdict-is (passed-verdict c))
 
-passed : (c : tie.After-enum-told)
-    → SeekPassed (c .before .before .before .before .before .before .before .args .space .now) (c .before .before .before .before .before .before .before .args .party) (pairOf (c .before .before .before .before .before .before .before)) (c .before .before .before .before .before .before .before .args .fields .now) (length (c .before .before .before .before .before .before .before .args .result .now))
-unfolding whole tableOf
-passed c = seek-passed _ _ _ _ _ (no-refusal c)
+  passed : let a = passed-start c .args in SeekPassed (a .space .now) (a .party) (pairOf (passed-start c)) (a .fields .now) (length (a .result .now))
+  unfolding whole tableOf
+  passed = seek-passed _ _ _ _ _ no-refusal
 
-cokey-is : (c : tie.After-stored-co-key) → c .stored-co-key .result ≡ stored (coKey (c .before .before .before .before .before .before .before .before .args .key))
-cokey-is c = c .stored-co-key .ensures ∙ ap (λ (k : ℤ). stored (coKey k)) (toZ-ofZ {w = w32} (c .before .before .before .before .before .before .before .before .fits .key))
+module _ (c : tie.After-stored-co-key) where
+  cokey-is : c .stored-co-key .result ≡ stored (coKey (passed-start (co-key-passed c) .args .key))
+  cokey-is = c .stored-co-key .ensures ∙ ap (λ (k : ℤ). stored (coKey k)) (toZ-ofZ {w = w32} (passed-start (co-key-passed c) .fits .key))
 
-place-is : (c : tie.After-search) → c .search .result ≡ placeOf (c .before .before .before .before .before .before .before .before .before .before)
+  cokey-small : c .stored-co-key .result ≤ 62
+  cokey-small =
+      let k = passed-start (co-key-passed c) .args .key in
+      subst (λ (n : ℕ). n ≤ 62) (sym cokey-is) (stored-le (coKey k) (co-in-range k (passed (co-key-passed c) .range)))
+
+place-is : (c : tie.After-search) → c .search .result ≡ placeOf (passed-start (search-passed c))
 place-is c =
-    let a = c .before .before .before .before .before .before .before .before .before .before .args in
+    let a = passed-start (search-passed c) .args in
     c .search .ensures
     ∙ ap (λ (k : ℕ). place (matches (meant (a .op)) (pair (a .partition) k) (a .fields .now)) (decode (a .space .now) .entries))
-    (ap coStored (cokey-is (c .before .before)) ∙ co-co (a .key) (passed (c .before .before .before) .range))
+    (ap coStored (cokey-is (search-co-key c)) ∙ co-co (a .key) (passed (search-passed c) .range))
 
-found-is : (c : tie.After-known-told2) → At (c .before .row .given .0 .0) ≡ soughtOf (c .before .before .before .before .before .before .before .before .before .before .before .before .before)
-unfolding whole tableOf
-found-is c = sought-placed _ _ _ _ _ _ (no-refusal (c .before .before .before .before .before .before)) _ (sym (c .before .row .given .1) ∙ place-is (c .before .before .before))
+module _ (c : tie.After-known-told2) where
+  found-is : At (c .before .row .given .0 .0) ≡ soughtOf (passed-start (found-passed c))
+  unfolding whole tableOf
+  found-is = sought-placed _ _ _ _ _ _ (no-refusal (found-passed c)) _ (sym (c .before .row .given .1) ∙ place-is (found-search c))
 
-low-row : (c : tie.After-known-told2) → c .before .row .given .0 .0 < 128
-low-row c = found-low _ _ _ _ _ (c .before .before .before .before .before .before .before .before .before .before .before .before .before .args .result .now) _ (found-is c)
+  low-row : c .before .row .given .0 .0 < 128
+  low-row = found-low _ _ _ _ _ (passed-start (found-passed c) .args .result .now) _ found-is
 
 of-seek-requires : tie.Need-of-seek-requires
 of-seek-requires c κs = search needs
@@ -88,24 +133,18 @@ same-length c = search needs
 
 returns : tie.Need-returns
 unfolding whole tableOf
-returns c = (sought-refused _ _ _ _ _ _ _ (verdict-refused (whole (c .before .before .before .before .before .before .before .before)) _ (sym (c .before .verdict .given .1) ∙ verdict-is (c .before .before .before))), refl)
+returns c =
+    let verdict = refused-verdict c in
+    (sought-refused _ _ _ _ _ _ _ (verdict-refused (whole (verdict-start verdict)) _ (sym (c .before .verdict .given .1) ∙ verdict-is verdict)), refl)
 
 enum-told : tie.Need-enum-told
 enum-told c = search needs
 
 stored-co-key-requires : tie.Need-stored-co-key-requires
-stored-co-key-requires c κs = ap keyInRange (toZ-ofZ {w = w32} (c .before .before .before .before .before .before .before .fits .key)) ∙ passed c .range
-
-co-small : (c : tie.After-stored-co-key) → c .stored-co-key .result ≤ 62
-co-small c =
-    let k = c .before .before .before .before .before .before .before .before .args .key in
-    subst (λ (n : ℕ). n ≤ 62) (sym (cokey-is c)) (stored-le (coKey k) (co-in-range k (passed (c .before) .range)))
-
-cast-search : tie.Need-cast-search
-cast-search c = omega (arith, co-small (c .before))
+stored-co-key-requires c κs = ap keyInRange (toZ-ofZ {w = w32} (passed-start c .fits .key)) ∙ passed c .range
 
 search-requires : tie.Need-search-requires
-search-requires c κs = (passed (c .before .before) .isSound, co-small (c .before), passed (c .before .before) .few)
+search-requires c κs = let p = passed (co-key-passed (c .before)) in (p .isSound, cokey-small (c .before), p .few)
 
 enum-known-row : tie.Need-enum-known-row
 enum-known-row c = search needs
@@ -118,20 +157,26 @@ same-length-2 c = search needs
 
 returns-2 : tie.Need-returns-2
 unfolding whole tableOf
-returns-2 c = (sought-placed _ _ _ _ _ _ (no-refusal (c .before .before .before .before .before)) _ (sym (c .enum-told2 .given .1) ∙ place-is (c .before .before)), refl)
+returns-2 c =
+    let search = nothing-search c in
+    (sought-placed _ _ _ _ _ _ (no-refusal (search-passed search)) _ (sym (c .enum-told2 .given .1) ∙ place-is search), refl)
 
 copy-out-requires : tie.Need-copy-out-requires
 copy-out-requires c κs =
-    let p = passed (c .before .before .before .before .before .before .before .before) in (sound-facts _ (p .isSound) .len, low-row (c .before .before), p .few, p .fits)
+    let found = c .before .before in
+    let p = passed (found-passed found) in
+    (sound-facts _ (p .isSound) .len, low-row found, p .few, p .fits)
 
 slice-reshare-prefix-hold-names : tie.Need-slice-reshare-prefix-hold-names
-slice-reshare-prefix-hold-names c = omega (arith, c .before .before .before .copy-out .kept .1 .1 .1 .0, passed (c .before .before .before .before .before .before .before .before .before .before .before .before) .fits)
+slice-reshare-prefix-hold-names c =
+    let copy = c .before .before .before in
+    omega (arith, copy .copy-out .kept .1 .1 .1 .0, passed (found-passed (copied-found copy)) .fits)
 
 slice-aggregate-hold-names : tie.Need-slice-aggregate-hold-names
 slice-aggregate-hold-names c = sym (length-take-le _ _ (slice-reshare-prefix-hold-names (c .before)))
 
 hold-names-requires : tie.Need-hold-names-requires
-hold-names-requires c κs = (passed (c .before .before .before .before .before .before .before .before .before .before .before .before .before) .isSound, passed (c .before .before .before .before .before .before .before .before .before .before .before .before .before) .party)
+hold-names-requires c κs = let p = passed (found-passed (copied-found (held-copied c))) in (p .isSound, p .party)
 
 same-length-3 : tie.Need-same-length-3
 same-length-3 c = search needs
@@ -141,8 +186,13 @@ same-length-4 c = search needs
 
 returns-3 : tie.Need-returns-3
 returns-3 c =
-    let p = passed (c .before .before .before .before .before .before .before .before .before .before .before .before .before .before .before .before) in
-    (found-is (c .before .before .before .before .before .before .before .before .before .before), delivered-at _ _ _ _ _ _ _ (sound-facts _ (p .isSound) .len) (low-row (c .before .before .before .before .before .before .before .before .before .before)) (p .few) (c .before .before .before .before .before .before .before .copy-out .ensures) (c .before .before .hold-names .ensures))
+    let held = c .before .before in
+    let copy = held-copied (held .before) in
+    let found = copied-found copy in
+    let p = passed (found-passed found) in (
+      found-is found,
+      delivered-at _ _ _ _ _ _ _ (sound-facts _ (p .isSound) .len) (low-row found) (p .few) (copy .copy-out .ensures) (held .hold-names .ensures),
+    )
 
 pub seek-spec : {M : Type 1} → statement M
 seek-spec =
@@ -154,7 +204,6 @@ seek-spec =
     returns
     enum-told
     stored-co-key-requires
-    cast-search
     search-requires
     enum-known-row
     enum-told-2
