@@ -1,4 +1,4 @@
--- The words of an opening: a function of each word, and two parts put one after the other into a list.
+-- The words of an opening: a function of each word, two parts put one after the other into a list, and the part past them cleared.
 use Prim.Native.Nat.{ℕ, zero, suc, _+_, _-_, _≤_, _<_}
 use mathlib.Core.Path.{_≡_, refl, ap, _∙_}
 use mathlib.Core.List.{List, [], _∷_, _++_, map, append-assoc, append-nil}
@@ -8,20 +8,22 @@ use lib.ListN.{length, take, drop, getD, set, length-append, length-take, length
 use lib.Seq.{take-at, drop-at, drop-drop}
 use Rattle.rules.specs.Words.{zeros}
 
+-- a word of the mapped list
 pub at-map : (f : ℕ → ℕ) (l : List ℕ) (i : ℕ) → i < length l → f (getD l i 0) ≡ getD (map f l) i 0
 at-map f [] i h = absurd (omega arith)
 at-map f (x ∷ xs) zero h = refl
 at-map f (x ∷ xs) (suc i) h = at-map f xs i (le-of-suc-le-suc h)
 
--- the counts are variables, since at numerals `take` and `drop` compute and `rw` finds nothing
+-- two parts put into a list, one after the other. The counts are variables, since at numerals `take` and `drop` compute and `rw` finds nothing
 pub mid-mid : (z a b : List ℕ) (i k m : ℕ) → i ≤ length z → length a ≡ k
     → take (i + k) (take i z ++ (a ++ drop k (drop i z))) ++ (b ++ drop m (drop (i + k) (take i z ++ (a ++ drop k (drop i z)))))
     ≡ (take i z ++ a) ++ (b ++ drop m (drop k (drop i z)))
 mid-mid z a b i k m h e =
     let len : length (take i z ++ a) ≡ i + k = simp (length-append, length-take) (omega arith) in
-    rw (← append-assoc (take i z) a (drop k (drop i z)), take-at (take i z ++ a) (drop k (drop i z)) (i + k) len, drop-at (take i z ++ a) (drop k (drop i z)) (i + k) len)
+    let rest : List ℕ = drop k (drop i z) in
+    rw (← append-assoc (take i z) a rest, take-at (take i z ++ a) rest (i + k) len, drop-at (take i z ++ a) rest (i + k) len)
 
--- the part past the holdings, cleared
+-- the words from k on, cleared as the part of the space that is lent
 pub past-cleared : (s z : List ℕ) (k n : ℕ) → length s ≡ k + n → z ≡ zeros (length (take (length s - k) (drop k s)))
     → drop k (take k s ++ (z ++ drop (length s - k) (drop k s))) ≡ zeros n
 past-cleared s z k n len e =
@@ -32,6 +34,7 @@ past-cleared s z k n len e =
     ∙ rw (drop-of-length-le (drop k s) none, append-nil z)
     (e ∙ ap zeros size)
 
+-- the two parts and the count, on a space whose rows are cleared
 pub on-cleared : (z a b : List ℕ) → 1 ≤ length z → drop 17 z ≡ zeros 1792
     → set ((take 1 z ++ a) ++ (b ++ drop 8 (drop 8 (drop 1 z)))) 0 0 ≡ 0 ∷ (a ++ (b ++ zeros 1792))
 on-cleared [] a b h e = absurd (omega arith)

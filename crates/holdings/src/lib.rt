@@ -57,7 +57,8 @@ fn with_all(src: &[u64], dst: &mut [u64], c: u64)
     }
 }
 
-// C1: no entries, the roster's holdings, and the defaults for everyone.
+// C1: no entries, the roster's holdings, and the defaults for everyone. Only the rows are cleared, since every other word is
+// written.
 pub fn fill(space: &mut [u64], roster: &[u64])
     requires { ⌜ (length (now space) ≡ 1809) × (length (now roster) ≡ 16) ⌝ }
     ensures { λ _. ⌜ now (space .exit) ≡ encode (opened (now (roster .entry))) ⌝ }

@@ -1,4 +1,5 @@
-// When a call is turned away: the tests in the table's order, of which the first that applies decides.
+// When a call is turned away: the tests in the table's order, of which the first that applies decides. Counters are u32,
+// since the board's core has 32 bits.
 use audit::Finding;
 ghost use mathlib.Core.Path.{_≡_};
 ghost use mathlib.Core.Bool.{true, not};

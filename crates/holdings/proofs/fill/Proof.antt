@@ -1,4 +1,4 @@
--- `fill` meets its contract: two parts written before the cleared one, and the count.
+-- `fill` meets its contract: the rows are cleared, the two parts before them are the holdings, and the count of entries is 0.
 use Prim.Native.Nat.{ℕ, _-_, _≤_}
 use mathlib.Core.Path.{_≡_, ap, _∙_}
 use mathlib.Core.List.{List, _++_, map}
@@ -12,6 +12,19 @@ use Rattle.holdings.proofs.Opening.{mid-mid, past-cleared, on-cleared}
 use borrow.Author.Needs.{needs}
 use Rattle.holdings.proofs.fill.Statement.{statement}
 use Rattle.holdings.proofs.fill.Tie as tie
+
+-- the places of the walk, each by its way to the one before it: the rows cleared, the partitions written, the keys written
+abbrev clear-start : tie.After-clear → tie.Start
+clear-start c = c .before .before .before .before
+
+abbrev partitions-clear : tie.After-with-all → tie.After-clear
+partitions-clear c = c .before .before .before .before .before
+
+abbrev keys-partitions : tie.After-with-all2 → tie.After-with-all
+keys-partitions c = c .before .before .before .before .before
+
+abbrev end-keys : tie.After-slice-known4 → tie.After-with-all2
+end-keys c = c .before .before
 
 sub-clear : tie.Need-sub-clear
 sub-clear c = search needs
@@ -76,17 +89,19 @@ same-length c = rw length-set (search needs)
 returns : tie.Need-returns
 unfolding opened encode
 returns c =
-    let start = c .before .before .before .before .before .before .before .before .before .before .before .before .before .before .before .before in
+    let written = end-keys c in
+    let partitioned = keys-partitions written in
+    let clear = partitions-clear partitioned in
+    let start = clear-start clear in
     let s = start .args .space .now in
     let roster = start .args .roster .now in
-    let cleared = c .before .before .before .before .before .before .before .before .before .before .before .before .clear .last .0 in
-    let z : List ℕ = take 17 s ++ (cleared ++ drop (length s - 17) (drop 17 s)) in
+    let z : List ℕ = take 17 s ++ (clear .clear .last .0 ++ drop (length s - 17) (drop 17 s)) in
     let partitions : List ℕ = map (λ w. withBit w defaultPartition) (take 8 roster) in
     let keys : List ℕ = map (λ w. withBit w defaultKey) (drop 8 roster) in
-    let past : drop 17 z ≡ zeros 1792 = past-cleared s cleared 17 1792 (start .pre .0) (c .before .before .before .before .before .before .before .before .before .before .before .before .clear .ensures) in
-    let first : c .before .before .before .before .before .before .before .with-all .last .1 .0 ≡ partitions = c .before .before .before .before .before .before .before .with-all .ensures in
+    let past : drop 17 z ≡ zeros 1792 = past-cleared s (clear .clear .last .0) 17 1792 (start .pre .0) (clear .clear .ensures) in
+    let first : partitioned .with-all .last .1 .0 ≡ partitions = partitioned .with-all .ensures in
     let whole : take 8 (drop 8 roster) ≡ drop 8 roster = take-all 8 (drop 8 roster) (simp length-drop (omega arith)) in
-    let second : c .before .before .with-all2 .last .1 .0 ≡ keys = c .before .before .with-all2 .ensures ∙ ap (map (λ w. withBit w defaultKey)) whole in
+    let second : written .with-all2 .last .1 .0 ≡ keys = written .with-all2 .ensures ∙ ap (map (λ w. withBit w defaultKey)) whole in
     let eight : length partitions ≡ 8 = length-map (take 8 roster) _ ∙ simp length-take (omega arith) in
     let some : 1 ≤ length z = simp (length-append, length-take) (omega (arith, start .pre .0)) in
     rw (first, second) (ap (λ (l : List ℕ). set l 0 0) (mid-mid z partitions keys 1 8 8 some eight) ∙ on-cleared z partitions keys some past)

@@ -1,4 +1,4 @@
--- `fields_held` meets its contract.
+-- `fields_held` meets its contract: at each field, the names in those that are left decide as all of them do.
 use Rattle.rules.specs.Names.{heldIn}
 use Rattle.rules.specs.Fields.{field, nameIn}
 use Rattle.rules.proofs.Loops.{all-fails, all-goes-on, all-ends, all-names}
@@ -21,6 +21,10 @@ Inv-loop partitions keys fields n i₀ i = (i ≤ length fields) × (all (carrie
 abbrev μ-loop : tie.MeasureT-loop
 μ-loop partitions keys fields n i₀ i = length fields - i
 
+-- the place of the walk where a field is tested, by its way into the loop
+abbrev test-turn : tie.After-field-held Inv-loop μ-loop → tie.In-loop Inv-loop μ-loop
+test-turn c = c .before .before
+
 cast-n : tie.Need-cast-n Inv-loop μ-loop
 cast-n c = search needs
 
@@ -40,7 +44,9 @@ field-held-requires : tie.Need-field-held-requires Inv-loop μ-loop
 field-held-requires c κs = search needs
 
 returns : tie.Need-returns Inv-loop μ-loop
-returns c = rw all-names (all-fails _ _ _ _ (c .before .before .before .before .loop .inv .1) (c .before .before .before .loop-test .taken) _ (c .before .field-held .ensures) (c .if1 .taken))
+returns c =
+    let turn = test-turn (c .before) in
+    rw all-names (all-fails _ _ _ _ (turn .before .loop .inv .1) (turn .loop-test .taken) _ (c .before .field-held .ensures) (c .if1 .taken))
 
 add-i : tie.Need-add-i Inv-loop μ-loop
 add-i c = search needs
@@ -49,7 +55,9 @@ loop-less : tie.Need-loop-less Inv-loop μ-loop
 loop-less c = search needs
 
 loop-again : tie.Need-loop-again Inv-loop μ-loop
-loop-again c = (search needs, all-goes-on _ _ _ _ (c .before .before .before .before .loop .inv .1) (c .before .before .before .loop-test .taken) _ (c .before .field-held .ensures) (c .if1 .left))
+loop-again c =
+    let turn = test-turn (c .before) in
+    (search needs, all-goes-on _ _ _ _ (turn .before .loop .inv .1) (turn .loop-test .taken) _ (c .before .field-held .ensures) (c .if1 .left))
 
 returns-2 : tie.Need-returns-2 Inv-loop μ-loop
 returns-2 c = rw all-names (all-ends _ _ _ _ (c .before .loop .inv .1) (c .loop-test .left))

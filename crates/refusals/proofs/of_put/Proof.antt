@@ -11,7 +11,7 @@ use mir.Facts.{toZ-ofZ}
 use mir.Syntax.{w32}
 use Rattle.rules.specs.Lists.{all}
 use Rattle.rules.specs.Names.{keyInRange}
-use Rattle.rules.specs.Matching.{pair}
+use Rattle.rules.specs.Matching.{Pair, pair}
 use Rattle.rules.specs.State.{holds, live}
 use Rattle.rules.specs.Calls.{Table, firstThatApplies, badPair, putNames, putTable}
 use Rattle.rules.specs.Words.{decode, sound}
@@ -24,12 +24,49 @@ use borrow.Author.Needs.{needs}
 use Rattle.refusals.proofs.of_put.Statement.{statement}
 use Rattle.refusals.proofs.of_put.Tie as tie
 
--- the table of the call
+-- the places of the walk, each by its way to the one before it: the first tests, what they begin with, and each later test
+abbrev tests-start : tie.After-first-tests → tie.Start
+tests-start c = c .before .before .before
+
+abbrev refused-tests : tie.After-refusal → tie.After-first-tests
+refused-tests c = c .before .before .before
+
+abbrev begun-tests : tie.After-known-told → tie.After-first-tests
+begun-tests c = c .before .before .before
+
+abbrev pairs-begun : tie.After-bad-pair2 → tie.After-known-told
+pairs-begun c = c .before .before
+
+abbrev fields-pairs : tie.After-put-fields → tie.Else1
+fields-pairs c = c .before
+
+abbrev held-fields : tie.After-put-held → tie.Else2
+held-fields c = c .before
+
+abbrev held-begun : tie.After-put-held → tie.After-known-told
+held-begun c = pairs-begun (fields-pairs (held-fields c .before) .before)
+
+abbrev begun-start : tie.After-known-told → tie.Start
+begun-start c = tests-start (begun-tests c)
+
+abbrev pairs-start : tie.After-bad-pair2 → tie.Start
+pairs-start c = begun-start (pairs-begun c)
+
+abbrev held-start : tie.After-put-held → tie.Start
+held-start c = begun-start (held-begun c)
+
+-- the call's pairs, whether the names that it needs by its keys are held, and its table
+abbrev readPair : tie.Start → Pair ℤ
+readPair s = pair (s .args .rpart) (s .args .rkey)
+
+abbrev takePair : tie.Start → Pair ℤ
+takePair s = pair (s .args .tpart) (s .args .tkey)
+
+abbrev heldBy : tie.Start → ℤ → ℤ → Bool
+heldBy s r t = let a = s .args in all (holds (decode (a .space .now)) (a .party)) (putNames (pair (a .rpart) r) (pair (a .tpart) t) (a .fields .now))
+
 whole : tie.Start → Table
-whole s =
-    let a = s .args in
-    (not (sound (a .space .now)), 1)
-    ∷ putTable (decode (a .space .now)) (a .party) (pair (a .rpart) (a .rkey)) (pair (a .tpart) (a .tkey)) (a .fields .now)
+whole s = let a = s .args in (not (sound (a .space .now)), 1) ∷ putTable (decode (a .space .now)) (a .party) (readPair s) (takePair s) (a .fields .now)
 
 -- past k tests, the rest of the table decides
 abbrev Past : ℕ → tie.Start → Type 0
@@ -39,40 +76,41 @@ begins : (s : tie.Start) → whole s ≡ firstTests (s .args .space .now) (s .ar
 unfolding whole putTable firstTests
 begins s = refl
 
-begun-is : (c : tie.After-known-told)
-    → (firstThatApplies (firstTests (c .before .before .before .before .before .before .args .space .now) (c .before .before .before .before .before .before .args .party) (c .before .before .before .before .before .before .args .fields .now)) ≡ none) × (c .before .begun .given .0 .0 ≡ live (c .before .before .before .before .before .before .args .party) (decode (c .before .before .before .before .before .before .args .space .now) .entries))
-begun-is c = live-by _ _ _ (sym (c .before .begun .given .1) ∙ c .before .before .before .first-tests .ensures)
+module _ (c : tie.After-known-told) where
+  begun-is : let a = begun-start c .args in
+      (firstThatApplies (firstTests (a .space .now) (a .party) (a .fields .now)) ≡ none)
+      × (c .before .begun .given .0 .0 ≡ live (a .party) (decode (a .space .now) .entries))
+  begun-is = live-by _ _ _ (sym (c .before .begun .given .1) ∙ begun-tests c .first-tests .ensures)
 
-past-3 : (c : tie.After-known-told) → Past 3 (c .before .before .before .before .before .before)
-past-3 c v e = first-leaves _ _ _ _ _ (begins (c .before .before .before .before .before .before)) v (begun-is c .0) e
+  past-3 : Past 3 (begun-start c)
+  past-3 v e = first-leaves _ _ _ _ _ (begins (begun-start c)) v (begun-is .0) e
 
 pairs-are : (c : tie.After-bad-pair2)
-    → (badPair (pair (c .before .before .before .before .before .before .before .before .args .rpart) (c .before .before .before .before .before .before .before .before .args .rkey)) || badPair (pair (c .before .before .before .before .before .before .before .before .args .tpart) (c .before .before .before .before .before .before .before .before .args .tkey))) ≡ (c .before .bad-pair .result || c .bad-pair2 .result)
+    → (badPair (readPair (pairs-start c)) || badPair (takePair (pairs-start c))) ≡ (c .before .bad-pair .result || c .bad-pair2 .result)
 pairs-are c =
-    let s = c .before .before .before .before .before .before .before .before in
+    let s = pairs-start c in
     let bad : ℕ → ℤ → Bool = λ p k. badPair (pair p k) in
     sym (ap₂ (λ (x y : Bool). x || y) (c .before .bad-pair .ensures ∙ ap (bad (s .args .rpart)) (toZ-ofZ {w = w32} (s .fits .rkey)))
     (c .bad-pair2 .ensures ∙ ap (bad (s .args .tpart)) (toZ-ofZ {w = w32} (s .fits .tkey))))
 
-past-4 : (c : tie.Else1) → Past 4 (c .before .before .before .before .before .before .before .before .before)
+past-4 : (c : tie.Else1) → Past 4 (pairs-start (c .before))
 unfolding whole putTable
-past-4 c v e = past-3 (c .before .before .before) v (leaves _ 4 _ v (pairs-are (c .before) ∙ c .if1 .left) e)
+past-4 c v e = past-3 (pairs-begun (c .before)) v (leaves _ 4 _ v (pairs-are (c .before) ∙ c .if1 .left) e)
 
-past-5 : (c : tie.Else2) → Past 5 (c .before .before .before .before .before .before .before .before .before .before .before)
+past-5 : (c : tie.Else2) → Past 5 (pairs-start (fields-pairs (c .before) .before))
 unfolding whole putTable
-past-5 c v e = past-4 (c .before .before) v (leaves _ 5 _ v (ap not (sym (c .before .put-fields .ensures)) ∙ c .if2 .left) e)
+past-5 c v e = past-4 (fields-pairs (c .before)) v (leaves _ 5 _ v (ap not (sym (c .before .put-fields .ensures)) ∙ c .if2 .left) e)
 
-held-is : (c : tie.After-put-held)
-    → all (holds (decode (c .before .before .before .before .before .before .before .before .before .before .before .before .args .space .now)) (c .before .before .before .before .before .before .before .before .before .before .before .before .args .party)) (putNames (pair (c .before .before .before .before .before .before .before .before .before .before .before .before .args .rpart) (c .before .before .before .before .before .before .before .before .before .before .before .before .args .rkey)) (pair (c .before .before .before .before .before .before .before .before .before .before .before .before .args .tpart) (c .before .before .before .before .before .before .before .before .before .before .before .before .args .tkey)) (c .before .before .before .before .before .before .before .before .before .before .before .before .args .fields .now)) ≡ c .put-held .result
-held-is c =
-    let s = c .before .before .before .before .before .before .before .before .before .before .before .before in
-    let a = s .args in
-    let held : ℤ → ℤ → Bool = λ r t. all (holds (decode (a .space .now)) (a .party)) (putNames (pair (a .rpart) r) (pair (a .tpart) t) (a .fields .now)) in
-    sym (c .put-held .ensures ∙ ap₂ held (toZ-ofZ {w = w32} (s .fits .rkey)) (toZ-ofZ {w = w32} (s .fits .tkey)))
+held-is : (c : tie.After-put-held) → heldBy (held-start c) (held-start c .args .rkey) (held-start c .args .tkey) ≡ c .put-held .result
+held-is c = let s = held-start c in sym (c .put-held .ensures ∙ ap₂ (heldBy s) (toZ-ofZ {w = w32} (s .fits .rkey)) (toZ-ofZ {w = w32} (s .fits .tkey)))
 
-past-6 : (c : tie.Else3) → Past 6 (c .before .before .before .before .before .before .before .before .before .before .before .before .before)
-unfolding whole putTable
-past-6 c v e = past-5 (c .before .before) v (leaves _ 7 _ v (ap not (held-is (c .before)) ∙ c .if3 .left) e)
+module _ (c : tie.Else3) where
+  past-6 : Past 6 (held-start (c .before))
+  unfolding whole putTable
+  past-6 v e = past-5 (held-fields (c .before)) v (leaves _ 7 _ v (ap not (held-is (c .before)) ∙ c .if3 .left) e)
+
+  live-is : let a = held-start (c .before) .args in held-begun (c .before) .before .begun .given .0 .0 ≡ live (a .party) (decode (a .space .now) .entries)
+  live-is = begun-is (held-begun (c .before)) .1
 
 first-tests-requires : tie.Need-first-tests-requires
 first-tests-requires c κs = search needs
@@ -90,7 +128,8 @@ returns : tie.Need-returns
 unfolding whole
 returns c =
     let told = c .before .enum-told .given .1 in
-    c .refusal .ensures ∙ ap refusalOf told ∙ first-decides _ _ _ _ _ (begins (c .before .before .before .before .before .before)) _ _ (sym told ∙ c .before .before .before .first-tests .ensures)
+    let tests = refused-tests c in
+    c .refusal .ensures ∙ ap refusalOf told ∙ first-decides _ _ _ _ _ (begins (tests-start tests)) _ _ (sym told ∙ tests .first-tests .ensures)
 
 bad-pair-requires : tie.Need-bad-pair-requires
 bad-pair-requires c κs = search needs
@@ -100,35 +139,36 @@ bad-pair-requires-2 c κs = search needs
 
 returns-2 : tie.Need-returns-2
 unfolding whole putTable
-returns-2 c = past-3 (c .before .before .before) _ (decides _ 4 _ (pairs-are (c .before) ∙ c .if1 .taken))
+returns-2 c = past-3 (pairs-begun (c .before)) _ (decides _ 4 _ (pairs-are (c .before) ∙ c .if1 .taken))
 
 put-fields-requires : tie.Need-put-fields-requires
-put-fields-requires c κs = first-passed _ _ _ (begun-is (c .before .before .before) .0) .2
+put-fields-requires c κs = first-passed _ _ _ (begun-is (pairs-begun (c .before)) .0) .2
 
 returns-3 : tie.Need-returns-3
 unfolding whole putTable
-returns-3 c = past-4 (c .before .before) _ (decides _ 5 _ (ap not (sym (c .before .put-fields .ensures)) ∙ c .if2 .taken))
+returns-3 c = past-4 (fields-pairs (c .before)) _ (decides _ 5 _ (ap not (sym (c .before .put-fields .ensures)) ∙ c .if2 .taken))
 
 put-held-requires : tie.Need-put-held-requires
 put-held-requires c κs =
-    let a = c .before .before .before .before .before .before .before .before .before .before .before .args in
-    let good : (badPair (pair (a .rpart) (a .rkey)) || badPair (pair (a .tpart) (a .tkey))) ≡ false = pairs-are (c .before .before .before) ∙ c .before .before .if1 .left in
-    let rkey : keyInRange (a .rkey) ≡ true = pair-in-range (pair (a .rpart) (a .rkey)) (or-left (badPair (pair (a .rpart) (a .rkey))) (badPair (pair (a .tpart) (a .tkey))) good) in
-    let tkey : keyInRange (a .tkey) ≡ true = pair-in-range (pair (a .tpart) (a .tkey)) (or-right (badPair (pair (a .rpart) (a .rkey))) (badPair (pair (a .tpart) (a .tkey))) good) in
-    let f = first-passed _ _ _ (begun-is (c .before .before .before .before .before) .0) in
-    (f .0, f .1, ap keyInRange (toZ-ofZ {w = w32} (c .before .before .before .before .before .before .before .before .before .before .before .fits .rkey)) ∙ rkey, ap keyInRange (toZ-ofZ {w = w32} (c .before .before .before .before .before .before .before .before .before .before .before .fits .tkey)) ∙ tkey, f .2)
+    let pairs = fields-pairs (c .before) in
+    let s = pairs-start (pairs .before) in
+    let good : (badPair (readPair s) || badPair (takePair s)) ≡ false = pairs-are (pairs .before) ∙ pairs .if1 .left in
+    let rkey : keyInRange (s .args .rkey) ≡ true = pair-in-range (readPair s) (or-left (badPair (readPair s)) (badPair (takePair s)) good) in
+    let tkey : keyInRange (s .args .tkey) ≡ true = pair-in-range (takePair s) (or-right (badPair (readPair s)) (badPair (takePair s)) good) in
+    let f = first-passed _ _ _ (begun-is (pairs-begun (pairs .before)) .0) in
+    (f .0, f .1, ap keyInRange (toZ-ofZ {w = w32} (s .fits .rkey)) ∙ rkey, ap keyInRange (toZ-ofZ {w = w32} (s .fits .tkey)) ∙ tkey, f .2)
 
 returns-4 : tie.Need-returns-4
 unfolding whole putTable
-returns-4 c = past-5 (c .before .before) _ (decides _ 7 _ (ap not (held-is (c .before)) ∙ c .if3 .taken))
+returns-4 c = past-5 (held-fields (c .before)) _ (decides _ 7 _ (ap not (held-is (c .before)) ∙ c .if3 .taken))
 
 returns-5 : tie.Need-returns-5
 unfolding whole putTable
-returns-5 c = past-6 (c .before) _ (decides _ 8 _ (le-leb _ _ (subst (λ (k : ℕ). 16 ≤ k) (begun-is (c .before .before .before .before .before .before .before .before) .1) (c .if4 .taken))))
+returns-5 c = past-6 (c .before) _ (decides _ 8 _ (le-leb _ _ (subst (λ (k : ℕ). 16 ≤ k) (live-is (c .before)) (c .if4 .taken))))
 
 returns-6 : tie.Need-returns-6
 unfolding whole putTable
-returns-6 c = past-6 (c .before) _ (leaves _ 8 _ _ (lt-leb _ _ (subst (λ (k : ℕ). k < 16) (begun-is (c .before .before .before .before .before .before .before .before) .1) (c .if4 .left))) passes)
+returns-6 c = past-6 (c .before) _ (leaves _ 8 _ _ (lt-leb _ _ (subst (λ (k : ℕ). k < 16) (live-is (c .before)) (c .if4 .left))) passes)
 
 pub of-put-spec : {M : Type 1} → statement M
 of-put-spec =

@@ -1,7 +1,7 @@
 -- `of_seek` meets its contract: past each test that fails, the rest of the table decides.
 use Prim.Native.Nat.{ℕ}
 use mathlib.Core.Path.{_≡_, refl, sym, ap, _∙_}
-use mathlib.Core.Bool.{true, not}
+use mathlib.Core.Bool.{Bool, false, not}
 use mathlib.Core.List.{_∷_, _++_}
 use mathlib.Core.Option.{none}
 use borrow.Author.Tests.{lt-ltb, le-ltb}
@@ -23,7 +23,41 @@ use borrow.Author.Needs.{needs}
 use Rattle.refusals.proofs.of_seek.Statement.{statement}
 use Rattle.refusals.proofs.of_seek.Tie as tie
 
--- the table of the call
+-- the places of the walk, each by its way to the one before it: the first tests, where they pass, and each later test
+abbrev tests-start : tie.After-first-tests → tie.Start
+tests-start c = c .before .before .before
+
+abbrev refused-tests : tie.After-refusal → tie.After-first-tests
+refused-tests c = c .before .before .before
+
+abbrev begun-tests : tie.After-enum-told → tie.After-first-tests
+begun-tests c = c .before .before
+
+abbrev pair-begun : tie.After-bad-pair → tie.After-enum-told
+pair-begun c = c .before
+
+abbrev fields-pair : tie.After-template-fields → tie.Else1
+fields-pair c = c .before
+
+abbrev held-fields : tie.After-seek-held → tie.Else2
+held-fields c = c .before .before
+
+abbrev begun-start : tie.After-enum-told → tie.Start
+begun-start c = tests-start (begun-tests c)
+
+abbrev pair-start : tie.After-bad-pair → tie.Start
+pair-start c = begun-start (pair-begun c)
+
+abbrev fields-start : tie.After-template-fields → tie.Start
+fields-start c = pair-start (fields-pair c .before)
+
+abbrev held-start : tie.After-seek-held → tie.Start
+held-start c = fields-start (held-fields c .before)
+
+-- whether the names that the call needs by its key are held, and its table
+abbrev heldBy : tie.Start → ℤ → Bool
+heldBy s k = let a = s .args in all (holds (decode (a .space .now)) (a .party)) (seekNames (pair (a .partition) k) (a .template .now))
+
 whole : tie.Start → Table
 whole s =
     let a = s .args in
@@ -37,32 +71,30 @@ begins : (s : tie.Start) → whole s ≡ firstTests (s .args .space .now) (s .ar
 unfolding whole seekTable firstTests
 begins s = refl
 
-begun-is : (c : tie.After-enum-told) → firstThatApplies (firstTests (c .before .before .before .before .before .args .space .now) (c .before .before .before .before .before .args .party) (c .before .before .before .before .before .args .template .now)) ≡ none
-begun-is c = live-by _ _ _ (sym (c .enum-told .given .1) ∙ c .before .before .first-tests .ensures) .0
+module _ (c : tie.After-enum-told) where
+  begun-is : let a = begun-start c .args in firstThatApplies (firstTests (a .space .now) (a .party) (a .template .now)) ≡ none
+  begun-is = live-by _ _ _ (sym (c .enum-told .given .1) ∙ begun-tests c .first-tests .ensures) .0
 
-past-3 : (c : tie.After-enum-told) → Past 3 (c .before .before .before .before .before)
-past-3 c v e = first-leaves _ _ _ _ _ (begins (c .before .before .before .before .before)) v (begun-is c) e
+  past-3 : Past 3 (begun-start c)
+  past-3 v e = first-leaves _ _ _ _ _ (begins (begun-start c)) v begun-is e
 
-pair-is : (c : tie.After-bad-pair) → badPair (pair (c .before .before .before .before .before .before .args .partition) (c .before .before .before .before .before .before .args .key)) ≡ c .bad-pair .result
-pair-is c = sym (c .bad-pair .ensures ∙ ap (λ (k : ℤ). badPair (pair (c .before .before .before .before .before .before .args .partition) k)) (toZ-ofZ {w = w32} (c .before .before .before .before .before .before .fits .key)))
+pair-is : (c : tie.After-bad-pair) → badPair (pair (pair-start c .args .partition) (pair-start c .args .key)) ≡ c .bad-pair .result
+pair-is c = let s = pair-start c in sym (c .bad-pair .ensures ∙ ap (λ (k : ℤ). badPair (pair (s .args .partition) k)) (toZ-ofZ {w = w32} (s .fits .key)))
 
-past-4 : (c : tie.Else1) → Past 4 (c .before .before .before .before .before .before .before)
+past-4 : (c : tie.Else1) → Past 4 (pair-start (c .before))
 unfolding whole seekTable
-past-4 c v e = past-3 (c .before .before) v (leaves _ 4 _ v (pair-is (c .before) ∙ c .if1 .left) e)
+past-4 c v e = past-3 (pair-begun (c .before)) v (leaves _ 4 _ v (pair-is (c .before) ∙ c .if1 .left) e)
 
-past-5 : (c : tie.Else2) → Past 5 (c .before .before .before .before .before .before .before .before .before)
+past-5 : (c : tie.Else2) → Past 5 (fields-start (c .before))
 unfolding whole seekTable
-past-5 c v e = past-4 (c .before .before) v (leaves _ 5 _ v (ap not (sym (c .before .template-fields .ensures)) ∙ c .if2 .left) e)
+past-5 c v e = past-4 (fields-pair (c .before)) v (leaves _ 5 _ v (ap not (sym (c .before .template-fields .ensures)) ∙ c .if2 .left) e)
 
-past-6 : (c : tie.Else3) → Past 6 (c .before .before .before .before .before .before .before .before .before .before)
+past-6 : (c : tie.Else3) → Past 6 (fields-start (c .before .before))
 unfolding whole seekTable
 past-6 c v e = past-5 (c .before) v (leaves _ 6 _ v (le-ltb _ _ (c .if3 .left)) e)
 
-held-is : (c : tie.After-seek-held)
-    → all (holds (decode (c .before .before .before .before .before .before .before .before .before .before .before .args .space .now)) (c .before .before .before .before .before .before .before .before .before .before .before .args .party)) (seekNames (pair (c .before .before .before .before .before .before .before .before .before .before .before .args .partition) (c .before .before .before .before .before .before .before .before .before .before .before .args .key)) (c .before .before .before .before .before .before .before .before .before .before .before .args .template .now)) ≡ c .seek-held .result
-held-is c =
-    let a = c .before .before .before .before .before .before .before .before .before .before .before .args in
-    sym (c .seek-held .ensures ∙ ap (λ (k : ℤ). all (holds (decode (a .space .now)) (a .party)) (seekNames (pair (a .partition) k) (a .template .now))) (toZ-ofZ {w = w32} (c .before .before .before .before .before .before .before .before .before .before .before .fits .key)))
+held-is : (c : tie.After-seek-held) → heldBy (held-start c) (held-start c .args .key) ≡ c .seek-held .result
+held-is c = let s = held-start c in sym (c .seek-held .ensures ∙ ap (heldBy s) (toZ-ofZ {w = w32} (s .fits .key)))
 
 first-tests-requires : tie.Need-first-tests-requires
 first-tests-requires c κs = search needs
@@ -80,21 +112,22 @@ returns : tie.Need-returns
 unfolding whole
 returns c =
     let told = c .before .enum-told2 .given .1 in
-    c .refusal .ensures ∙ ap refusalOf told ∙ first-decides _ _ _ _ _ (begins (c .before .before .before .before .before .before)) _ _ (sym told ∙ c .before .before .before .first-tests .ensures)
+    let tests = refused-tests c in
+    c .refusal .ensures ∙ ap refusalOf told ∙ first-decides _ _ _ _ _ (begins (tests-start tests)) _ _ (sym told ∙ tests .first-tests .ensures)
 
 bad-pair-requires : tie.Need-bad-pair-requires
 bad-pair-requires c κs = search needs
 
 returns-2 : tie.Need-returns-2
 unfolding whole seekTable
-returns-2 c = past-3 (c .before .before) _ (decides _ 4 _ (pair-is (c .before) ∙ c .if1 .taken))
+returns-2 c = past-3 (pair-begun (c .before)) _ (decides _ 4 _ (pair-is (c .before) ∙ c .if1 .taken))
 
 template-fields-requires : tie.Need-template-fields-requires
-template-fields-requires c κs = first-passed _ _ _ (begun-is (c .before .before)) .2
+template-fields-requires c κs = first-passed _ _ _ (begun-is (pair-begun (c .before))) .2
 
 returns-3 : tie.Need-returns-3
 unfolding whole seekTable
-returns-3 c = past-4 (c .before .before) _ (decides _ 5 _ (ap not (sym (c .before .template-fields .ensures)) ∙ c .if2 .taken))
+returns-3 c = past-4 (fields-pair (c .before)) _ (decides _ 5 _ (ap not (sym (c .before .template-fields .ensures)) ∙ c .if2 .taken))
 
 returns-4 : tie.Need-returns-4
 unfolding whole seekTable
@@ -102,10 +135,11 @@ returns-4 c = past-5 (c .before) _ (decides _ 6 _ (lt-ltb _ _ (c .if3 .taken)))
 
 seek-held-requires : tie.Need-seek-held-requires
 seek-held-requires c κs =
-    let a = c .before .before .before .before .before .before .before .before .before .before .args in
-    let key : keyInRange (a .key) ≡ true = pair-in-range (pair (a .partition) (a .key)) (pair-is (c .before .before .before .before) ∙ c .before .before .before .if1 .left) in
-    let f = first-passed _ _ _ (begun-is (c .before .before .before .before .before)) in
-    (f .0, f .1, ap keyInRange (toZ-ofZ {w = w32} (c .before .before .before .before .before .before .before .before .before .before .fits .key)) ∙ key, f .2)
+    let pair-test = fields-pair (c .before .before) in
+    let s = pair-start (pair-test .before) in
+    let good : badPair (pair (s .args .partition) (s .args .key)) ≡ false = pair-is (pair-test .before) ∙ pair-test .if1 .left in
+    let f = first-passed _ _ _ (begun-is (pair-begun (pair-test .before))) in
+    (f .0, f .1, ap keyInRange (toZ-ofZ {w = w32} (s .fits .key)) ∙ pair-in-range (pair (s .args .partition) (s .args .key)) good, f .2)
 
 returns-5 : tie.Need-returns-5
 unfolding whole seekTable

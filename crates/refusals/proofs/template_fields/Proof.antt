@@ -1,4 +1,4 @@
--- `template_fields` meets its contract.
+-- `template_fields` meets its contract: at each field, those that are left decide as all of them do.
 use Rattle.rules.specs.Fields.{templateField}
 use Rattle.rules.proofs.Loops.{all-fails, all-goes-on, all-ends}
 use Prim.Native.Nat.{_≤_, _-_}
@@ -14,6 +14,10 @@ Inv-loop template n i₀ i = (i ≤ length template) × (all templateField (drop
 
 abbrev μ-loop : tie.MeasureT-loop
 μ-loop template n i₀ i = length template - i
+
+-- the place of the walk where a field is tested, by its way into the loop
+abbrev test-turn : tie.After-template-field Inv-loop μ-loop → tie.In-loop Inv-loop μ-loop
+test-turn c = c .before .before
 
 cast-n : tie.Need-cast-n Inv-loop μ-loop
 cast-n c = search needs
@@ -34,7 +38,9 @@ template-field-requires : tie.Need-template-field-requires Inv-loop μ-loop
 template-field-requires c κs = search needs
 
 returns : tie.Need-returns Inv-loop μ-loop
-returns c = all-fails _ _ _ _ (c .before .before .before .before .loop .inv .1) (c .before .before .before .loop-test .taken) _ (c .before .template-field .ensures) (c .if1 .taken)
+returns c =
+    let turn = test-turn (c .before) in
+    all-fails _ _ _ _ (turn .before .loop .inv .1) (turn .loop-test .taken) _ (c .before .template-field .ensures) (c .if1 .taken)
 
 add-i : tie.Need-add-i Inv-loop μ-loop
 add-i c = search needs
@@ -43,7 +49,9 @@ loop-less : tie.Need-loop-less Inv-loop μ-loop
 loop-less c = search needs
 
 loop-again : tie.Need-loop-again Inv-loop μ-loop
-loop-again c = (search needs, all-goes-on _ _ _ _ (c .before .before .before .before .loop .inv .1) (c .before .before .before .loop-test .taken) _ (c .before .template-field .ensures) (c .if1 .left))
+loop-again c =
+    let turn = test-turn (c .before) in
+    (search needs, all-goes-on _ _ _ _ (turn .before .loop .inv .1) (turn .loop-test .taken) _ (c .before .template-field .ensures) (c .if1 .left))
 
 returns-2 : tie.Need-returns-2 Inv-loop μ-loop
 returns-2 c = all-ends _ _ _ _ (c .before .loop .inv .1) (c .loop-test .left)
