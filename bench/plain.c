@@ -1,149 +1,448 @@
-/* The space in plain C, with the same checks in the same order: what the proved library is measured against. */
-#include "space.h"
+/* The shared space in plain C, made as fast as we could: what the proved library is measured against.
+   The space is 1809 words: the count of live rows, the partitions and then the keys that each of the eight parties holds, and
+   128 rows of 14 words: the writer, the read pair, the take pair (a partition and a key's place each), the field count and
+   eight fields. Every call looks at every word of it (scan); for a read or take the same pass finds the entry.
+   GNU C for little-endian machines. It keeps nothing outside the slices that it is lent. */
+#include "plain.h"
 #include <string.h>
+#ifdef __SSE2__
+#include <emmintrin.h>
+#endif
+#ifdef __thumb2__
+#pragma GCC optimize("no-schedule-insns") /* it would part the two loads that make an ldrd */
+#endif
+#if __BYTE_ORDER__ != __ORDER_LITTLE_ENDIAN__
+#error "matches() takes the first half of a word for its lower half"
+#endif
 
-enum { WORDS = 1809, ROW = 14, ROWS = 128, PARTIES = 8, MOST = 16, FIELDS = 8 };
+enum { WORDS = 1809, FIRST = 17, ROW = 14, ROWS = 128, MOST = 16, FIELDS = 8 };
+enum { READ = 1, TAKE = 3, COUNT = 5, FIELD = 6 }; /* where in a row its pairs, its count and its fields are */
 #define WILDCARD (3ull << 32)
+#define NEVER UINT32_MAX /* neither a partition nor a writer */
+#define NOINLINE static __attribute__((noinline))
+#define INLINE static inline __attribute__((always_inline))
 
-static int put_field(uint64_t w)
+INLINE uint32_t low(uint64_t w) { return (uint32_t)w; }
+INLINE uint32_t high(uint64_t w) { return (uint32_t)(w >> 32); }
+
+/* 1. What differs between the machines. */
+
+/* Hints that emit nothing. HIDE: forget what x is, so don't hoist a load by it or merge a pointer's steps (they are part of
+   ldmia and stmia). HERE: all of x is in registers by now, so load both halves at once (ldrd, ldmia) and keep the order. */
+#if defined __thumb__ && !defined __thumb2__
+#define HIDE(x) __asm__("" : "+l"(x))
+#define HIDE_NOW(x) __asm__ volatile("" : "+l"(x)) /* in each round of a loop */
+#define HERE(x) __asm__("" : : "l"(x))
+#else
+#define HIDE(x) __asm__("" : "+r"(x))
+#define HIDE_NOW(x) HIDE(x)
+#define HERE(x) __asm__("" : : "r"(x))
+#endif
+
+/* How scan() loads a head word and tests partitions and writer. A 64-bit machine does it with whole words. A 32-bit one loads
+   the lower half, and gathers whatever has to be 0 in `highs`: where that isn't 0 sound_rights() decides. */
+#if UINTPTR_MAX > UINT32_MAX
+typedef uint64_t part;
+#define LOAD(part, w) (part = (w))
+#define TEST_PARTITIONS(a, b) do { partitions |= (a); HERE(partitions); partitions |= (b); } while (0)
+#define TEST_WRITER(w) do if ((w) > 7) return 0; while (0)
+#define CHARGE(w) charge[w]++
+#else
+typedef uint32_t part;
+#define TEST_PARTITIONS(a, b) do { highs |= ((a) | (b)) >> 6; HERE(highs); } while (0)
+#define TEST_WRITER(w) (highs |= (w) >> 3)
+#ifdef __thumb2__
+#define LOAD(part, w) do { uint32_t h = high(w); part = low(w); BOTH_HERE(part, h); highs |= h; HERE(highs); } while (0)
+#define BOTH_HERE(x, y) __asm__("" : : "r"(x), "r"(y))
+#else
+#define LOAD(part, w) do { part = low(w); highs |= high(w); HERE(highs); } while (0)
+#endif
+/* The address of the byte is charge + w in the load and again in the store, not added up before. */
+#define CHARGE(w) do { uint8_t *p = charge; HIDE_NOW(p); uint32_t n = p[w] + 1u; HIDE_NOW(p); p[w] = (uint8_t)n; } while (0)
+#endif
+
+/* clear: is each word of that many rows 0? clean: make them 0. close_up: move the rows behind `row` up to `live` a row down. */
+#define SEVEN(DO, i) DO(i) DO(i + 1) DO(i + 2) DO(i + 3) DO(i + 4) DO(i + 5) DO(i + 6)
+#define FOURTEEN(DO) SEVEN(DO, 0) SEVEN(DO, 7)
+#define TWENTYEIGHT(DO) FOURTEEN(DO) SEVEN(DO, 14) SEVEN(DO, 21)
+#ifdef __SSE2__
+NOINLINE int clear(const uint64_t *p, uint32_t rows)
 {
-    uint32_t value = (uint32_t)w;
-    switch (w >> 32) {
-    case 0: return 1;
-    case 1: return value < 64;
-    case 2: return value < 63;
+    if (!rows) return 1;
+    int odd = (uintptr_t)p & 8; /* the pairs of words that are operands have to be 16-aligned */
+    const __m128i *pair = (const __m128i *)(odd ? p + 1 : p + 2);
+    __m128i all = odd ? _mm_cvtsi64_si128((long long)(p[0] | p[ROW * rows - 1])) : pair[-1];
+#define GATHER(i) all = _mm_or_si128(all, pair[i]); __asm__("" : "+x"(all));
+    GATHER(0) GATHER(1) GATHER(2) GATHER(3) GATHER(4) GATHER(5)
+    pair += 6;
+    for (rows--; rows % 4; rows--, pair += 7) { SEVEN(GATHER, 0) }
+    for (; rows; rows -= 4, pair += 28) { TWENTYEIGHT(GATHER) }
+    return _mm_movemask_epi8(_mm_cmpeq_epi8(all, _mm_setzero_si128())) == 0xffff;
+}
+
+INLINE void clean(uint64_t *p, uint32_t rows)
+{
+    const __m128i none = _mm_setzero_si128();
+#define CLEAN(i) _mm_storeu_si128((__m128i *)p + i, none);
+    for (; rows % 8; rows--, p += ROW) { SEVEN(CLEAN, 0) }
+    for (; rows; rows -= 8, p += 8 * ROW) {
+        TWENTYEIGHT(CLEAN) SEVEN(CLEAN, 28) SEVEN(CLEAN, 35) SEVEN(CLEAN, 42) SEVEN(CLEAN, 49)
+    }
+}
+
+INLINE void close_up(uint64_t *row, const uint64_t *live)
+{
+    enum { PIECE = 36 * ROW }; /* glibc moves up to 4096 bytes by vectors, more as a string of bytes */
+    for (; live - row > PIECE + ROW; row += PIECE) memmove(row, row + ROW, PIECE * sizeof *row);
+    memmove(row, row + ROW, (size_t)((const char *)live - (const char *)(row + ROW)));
+}
+#else
+NOINLINE int clear(const uint64_t *p, uint32_t rows)
+{
+    uint32_t all = 0;
+#define GATHER(i) { uint64_t w = *p++; HIDE(p); HERE(w); all |= low(w); all |= high(w); HERE(all); }
+    for (; rows % 4; rows--) { FOURTEEN(GATHER) }
+    for (; rows; rows -= 4) { TWENTYEIGHT(GATHER) TWENTYEIGHT(GATHER) }
+    return all == 0;
+}
+
+INLINE void clean(uint64_t *p, uint32_t rows)
+{
+    uint64_t none = 0;
+    HIDE(none);
+#define CLEAN(i) *p++ = none; HIDE(p);
+    for (; rows % 4; rows--) { FOURTEEN(CLEAN) }
+    for (; rows; rows -= 4) { TWENTYEIGHT(CLEAN) TWENTYEIGHT(CLEAN) }
+}
+
+INLINE void close_up(uint64_t *row, const uint64_t *live)
+{
+#ifdef __thumb2__
+    struct eight { uint64_t word[8]; }; /* up to 64 bytes are copied by ldm and stm of four registers */
+    struct six { uint64_t word[6]; };
+    for (; row + ROW != live; row += ROW) {
+        *(struct eight *)row = *(const struct eight *)(row + ROW);
+        *(struct six *)(row + 8) = *(const struct six *)(row + ROW + 8);
+    }
+#else
+    const uint64_t *from = row + ROW;
+#define MOVE(i) *row++ = *from++; HIDE(row); HIDE(from);
+    while (from != live) { FOURTEEN(MOVE) }
+#endif
+}
+#endif
+
+/* A template, made ready field by field: start, then literal or wildcard for each, then finish. */
+struct template {
+    const uint64_t *space, *fields, *found;
+    uint32_t count, partition, key; /* the co-key's place */
+#ifdef __SSE2__
+    union { uint64_t word[FIELDS]; __m128i pair[FIELDS / 2]; } field, wild;
+};
+
+INLINE void start(struct template *t, int at)
+{
+    (void)at;
+    for (int i = 0; i < FIELDS / 2; i++) t->field.pair[i] = t->wild.pair[i] = _mm_setzero_si128();
+}
+INLINE void literal(struct template *t, uint32_t i, uint64_t w) { t->field.word[i] = w; }
+INLINE void wildcard(struct template *t, uint32_t i) { t->wild.word[i] = UINT64_MAX; }
+INLINE void finish(struct template *t) { (void)t; }
+
+INLINE int matches(const struct template *t, const uint64_t *row, int at)
+{
+    if (low(row[at + 1]) != t->key || low(row[COUNT]) != t->count) return 0;
+    __m128i all = _mm_set1_epi8(-1);
+#pragma GCC unroll 4
+    for (int i = 0; i < FIELDS / 2; i++) {
+        __m128i pair = _mm_loadu_si128((const __m128i *)(row + FIELD + 2 * i));
+        all = _mm_and_si128(all, _mm_or_si128(_mm_cmpeq_epi32(pair, t->field.pair[i]), t->wild.pair[i]));
+    }
+    return _mm_movemask_epi8(all) == 0xffff;
+}
+#else
+    /* The lower halves to find: the place in the row in bytes (lower half) and the value (upper half). A wildcard has none.
+       The last, at the writer, is never found. */
+    uint64_t probe[2 + FIELDS + 1], *next;
+};
+
+INLINE void probe(struct template *t, uint32_t place, uint32_t value) { *t->next++ = (uint64_t)value << 32 | 8 * place; }
+INLINE void start(struct template *t, int at)
+{
+    t->next = t->probe;
+    probe(t, (uint32_t)at + 1, t->key);
+    probe(t, COUNT, t->count);
+}
+INLINE void literal(struct template *t, uint32_t i, uint64_t w) { probe(t, FIELD + i, low(w)); }
+INLINE void wildcard(struct template *t, uint32_t i) { (void)t, (void)i; }
+INLINE void finish(struct template *t) { probe(t, 0, NEVER); }
+
+/* Of a row whose lower halves match: does the whole? */
+NOINLINE int same(const uint64_t *fields, uint32_t count, const uint64_t *f)
+{
+    for (uint32_t i = 0; i < count; i++)
+        if (fields[i] != f[i] && fields[i] != WILDCARD) return 0;
+    return 1;
+}
+
+INLINE int matches(const struct template *t, const uint64_t *row, int at)
+{
+    const uint64_t *p = t->probe;
+    uint32_t place, half, value;
+    (void)at;
+    do {
+#ifdef __thumb2__
+        uint64_t both = *p++;
+        HERE(both);
+        place = low(both), value = high(both);
+#else
+        place = low(*p), value = high(*p), p++;
+#endif
+        memcpy(&half, __builtin_assume_aligned((const char *)row + place, 4), 4);
+    } while (half == value);
+    return place == 0 && same(t->fields, t->count, row + FIELD);
+}
+#endif
+
+/* 2. Soundness, and with it the search. */
+
+INLINE int sound_field(uint64_t w) { return high(w) == 0 || (high(w) <= 2 && low(w) <= 64 - high(w)); }
+
+NOINLINE int sound_roster(const uint64_t *s)
+{
+    uint32_t ones = low(s[1]) & low(s[2]) & low(s[3]) & low(s[4]) & low(s[5]) & low(s[6]) & low(s[7]) & low(s[8]);
+    uint32_t keys = low(s[9]), tops = high(s[9]);
+    HERE(ones);
+#pragma GCC unroll 7
+    for (int i = 10; i < FIRST; i++) {
+        keys &= low(s[i]);
+        tops |= high(s[i]);
+        HERE(keys);
+        HERE(tops);
+    }
+    return (ones & 1) && (keys & ~tops) >> 31;
+}
+
+/* Of a row where `highs` isn't 0: is it because of rights among its fields? Its lower halves but those are tested already. */
+NOINLINE int sound_rights(const uint64_t *row)
+{
+    if (row[0] > 7 || row[READ] > 63 || row[TAKE] > 63 || high(row[READ + 1]) | high(row[TAKE + 1]) | high(row[COUNT])) return 0;
+    uint32_t count = low(row[COUNT]);
+    const uint64_t *f = row + FIELD;
+#pragma GCC unroll 4
+    for (uint32_t i = 0; i < FIELDS; i += 2) {
+        if (!(high(f[i]) | high(f[i + 1]))) continue; /* two messages */
+        if (!sound_field(f[i]) || (high(f[i]) && i >= count)) return 0;
+        if (!sound_field(f[i + 1]) || (high(f[i + 1]) && i + 1 >= count)) return 0;
+    }
+    return 1;
+}
+
+INLINE int sound_keys(const uint64_t *row)
+{
+    HIDE(row);
+    return (part)row[READ + 1] <= 62 && (part)row[TAKE + 1] <= 62;
+}
+
+/* Of a row with fewer than eight fields: are the lower halves past them 0? */
+INLINE int sound_rest(const uint64_t *row, part count)
+{
+    uint32_t rest = 0;
+    HIDE(row);
+    switch (count) {
+    case 1: rest |= low(row[FIELD + 1]); /* fall through */
+    case 2: rest |= low(row[FIELD + 2]); /* fall through */
+    case 3: rest |= low(row[FIELD + 3]); /* fall through */
+    case 4: rest |= low(row[FIELD + 4]); /* fall through */
+    case 5: rest |= low(row[FIELD + 5]); /* fall through */
+    case 6: rest |= low(row[FIELD + 6]); /* fall through */
+    case 7: rest |= low(row[FIELD + 7]); return rest == 0;
     default: return 0;
     }
 }
 
-/* Every clause of soundness, in one pass; charges counts each writer's rows. */
-static int sound(const uint64_t *s, size_t len, uint8_t *charges)
+/* Every clause of soundness. The charges are bytes, each writer's rows. With a template (then at is READ or TAKE, else 0) it
+   also finds the first row that matches. */
+INLINE int scan(const uint64_t *s, uint64_t *charges, struct template *t, int at)
 {
-    if (len != WORDS || s[0] > ROWS) return 0;
-    for (int p = 0; p < PARTIES; p++) {
-        uint64_t keys = s[9 + p];
-        if (!(s[1 + p] & 1) || !(keys >> 31 & 1) || keys >> 63) return 0;
+    if (s[0] > ROWS || !sound_roster(s)) return 0;
+    *charges = 0;
+    uint8_t *charge = (uint8_t *)charges;
+    part want = at ? t->partition : 0, partitions = 0;
+    const uint64_t *row = s + FIRST, *live = row + ROW * low(s[0]);
+    for (; row != live; row += ROW) {
+        part writer, partition, key, other, count;
+        uint32_t highs = high(row[6]) | high(row[7]) | high(row[8]) | high(row[9]) | high(row[10]) | high(row[11])
+            | high(row[12]) | high(row[13]);
+        HERE(highs);
+        LOAD(partition, row[READ]);
+        LOAD(key, row[READ + 1]);
+        LOAD(other, row[TAKE]);
+        TEST_PARTITIONS(partition, other);
+        if (at == TAKE) partition = other;
+        LOAD(other, row[TAKE + 1]);
+        if ((key | other) > 62 && !sound_keys(row)) return 0; /* two good keys may make a 63 */
+        LOAD(count, row[COUNT]);
+        if (count != FIELDS && !sound_rest(row, count)) return 0;
+        LOAD(writer, row[0]);
+        TEST_WRITER(writer);
+        if (highs) {
+            if (!sound_rights(row)) return 0;
+            HIDE(row); /* rather load the writer again here than keep it in every round */
+            writer = (part)row[0];
+        }
+        CHARGE(writer);
+        if (at && partition == want && matches(t, row, at)) {
+            t->found = row;
+            want = NEVER;
+        }
     }
-    memset(charges, 0, PARTIES);
-    const uint64_t *row = s + 17, *live = row + ROW * s[0];
-    for (; row < live; row += ROW) {
-        if (row[0] > 7 || row[1] > 63 || row[2] > 62 || row[3] > 63 || row[4] > 62 || row[5] < 1 || row[5] > FIELDS) return 0;
-        unsigned count = (unsigned)row[5], i = 0;
-        for (; i < count; i++)
-            if (!put_field(row[6 + i])) return 0;
-        for (; i < FIELDS; i++)
-            if (row[6 + i]) return 0;
-        if (++charges[row[0]] > MOST) return 0;
+    if (at) s = t->space; /* rather than keep it in a register */
+    if (partitions > 63 || !clear(row, ROWS - low(s[0]))) return 0;
+    return !((*charges + 0x0101010101010101u * (127 - MOST)) & 0x8080808080808080u); /* at most 128 each, so no byte carries */
+}
+
+NOINLINE int sound(const uint64_t *s, uint64_t *charges) { return scan(s, charges, 0, 0); }
+NOINLINE int sound_read(struct template *t) { uint64_t charges; return scan(t->space, &charges, t, READ); }
+NOINLINE int sound_take(struct template *t) { uint64_t charges; return scan(t->space, &charges, t, TAKE); }
+
+/* 3. The calls. */
+
+INLINE int bad_pair(uint32_t partition, int32_t key) { return partition > 63 || (uint32_t)key + 31 > 62; }
+
+INLINE int pair_held(const uint64_t *s, uint32_t party, uint32_t partition, int32_t key)
+{
+    return (s[1 + party] >> partition & 1) && (s[9 + party] >> (key + 31) & 1);
+}
+
+NOINLINE int rights_held(const uint64_t *s, uint32_t party, const uint64_t *f, uint32_t n)
+{
+    for (uint32_t i = 0; i < n; i++) {
+        if (high(f[i]) == 1 && !(s[1 + party] >> low(f[i]) & 1)) return 0;
+        if (high(f[i]) == 2 && !(s[9 + party] >> low(f[i]) & 1)) return 0;
     }
-    for (; row < s + WORDS; row++)
-        if (*row) return 0;
     return 1;
 }
 
-static int bad_pair(uint32_t partition, int32_t key) { return partition > 63 || key < -31 || key > 31; }
-
-static int pair_held(const uint64_t *s, uint32_t p, uint32_t partition, int32_t key)
+NOINLINE void gain(uint64_t *s, uint32_t party, const uint64_t *f, uint32_t n)
 {
-    return (s[1 + p] >> partition & 1) && (s[9 + p] >> (key + 31) & 1);
-}
-
-static int fields_held(const uint64_t *s, uint32_t p, const uint64_t *f, size_t n)
-{
-    for (size_t i = 0; i < n; i++) {
-        uint64_t kind = f[i] >> 32;
-        if (kind == 1 && !(s[1 + p] >> (uint32_t)f[i] & 1)) return 0;
-        if (kind == 2 && !(s[9 + p] >> (uint32_t)f[i] & 1)) return 0;
+    for (uint32_t i = 0; i < n; i++) {
+        if (high(f[i]) == 1) s[1 + party] |= 1ull << low(f[i]);
+        if (high(f[i]) == 2) s[9 + party] |= 1ull << low(f[i]);
     }
-    return 1;
 }
 
-uint32_t space_open(uint64_t *s, size_t len, const uint64_t *roster, size_t roster_len)
+uint32_t plain_open(uint64_t *restrict s, uint64_t len, const uint64_t *restrict roster, uint64_t roster_len)
 {
     if (len != WORDS) return 101;
     if (roster_len != 16) return 109;
-    for (int i = 8; i < 16; i++)
-        if (roster[i] >> 63) return 109;
-    memset(s, 0, WORDS * sizeof *s);
-    for (int i = 0; i < PARTIES; i++) {
+    uint64_t tops = 0;
+#pragma GCC unroll 8
+    for (int i = 8; i < 16; i++) tops |= roster[i];
+    if (tops >> 63) return 109;
+    s[0] = 0;
+#pragma GCC unroll 8
+    for (int i = 0; i < 8; i++) {
         s[1 + i] = roster[i] | 1;
         s[9 + i] = roster[8 + i] | 1ull << 31;
     }
+    clean(s + FIRST, ROWS);
     return 0;
 }
 
-uint32_t space_put(uint64_t *s, size_t len, uint32_t party, uint32_t rp, int32_t rk, uint32_t tp, int32_t tk,
-                   const uint64_t *f, size_t n)
+uint32_t plain_put(uint64_t *restrict s, uint64_t len, uint32_t party, uint32_t read_partition, int32_t read_key,
+                   uint32_t take_partition, int32_t take_key, const uint64_t *restrict f, uint64_t n)
 {
-    uint8_t charges[PARTIES];
-    if (!sound(s, len, charges)) return 101;
+    uint64_t charges;
+    if (len != WORDS || !sound(s, &charges)) return 101;
     if (party > 7) return 102;
     if (n < 1 || n > FIELDS) return 103;
-    if (bad_pair(rp, rk) || bad_pair(tp, tk)) return 104;
-    for (size_t i = 0; i < n; i++)
-        if (!put_field(f[i])) return 105;
-    if (!pair_held(s, party, rp, rk) || !pair_held(s, party, tp, tk) || !fields_held(s, party, f, n)) return 107;
-    if (charges[party] >= MOST) return 108;
-    uint64_t *row = s + 17 + ROW * s[0];
+    if (bad_pair(read_partition, read_key) || bad_pair(take_partition, take_key)) return 104;
+    uint32_t count = low(n), kinds = 0;
+    for (uint32_t i = 0; i < count; i++) {
+        kinds |= high(f[i]);
+        if (!sound_field(f[i])) return 105;
+    }
+    if (!pair_held(s, party, read_partition, read_key) || !pair_held(s, party, take_partition, take_key)) return 107;
+    if (kinds && !rights_held(s, party, f, count)) return 107;
+    if (((uint8_t *)&charges)[party] >= MOST) return 108; /* always with 128 rows */
+    uint64_t *row = s + FIRST + ROW * low(s[0]); /* all 0 as yet */
     row[0] = party;
-    row[1] = rp;
-    row[2] = (uint64_t)(rk + 31);
-    row[3] = tp;
-    row[4] = (uint64_t)(tk + 31);
-    row[5] = n;
-    memcpy(row + 6, f, n * sizeof *f);
-    memset(row + 6 + n, 0, (FIELDS - n) * sizeof *f);
-    s[0]++;
+    row[READ] = read_partition;
+    row[READ + 1] = (uint32_t)(read_key + 31);
+    row[TAKE] = take_partition;
+    row[TAKE + 1] = (uint32_t)(take_key + 31);
+    row[COUNT] = count;
+    for (uint32_t i = 0; i < count; i++) row[FIELD + i] = f[i];
+    s[0] = low(s[0]) + 1;
     return 0;
 }
 
-static void gain(uint64_t *s, uint32_t party, const uint64_t *f, size_t n)
+/* Makes the template ready; the answer is the refusal but for 101, or 0. */
+INLINE uint32_t prepare(struct template *t, const uint64_t *s, uint32_t party, uint32_t partition, int32_t key,
+                        const uint64_t *f, uint64_t n, uint64_t room, int at)
 {
-    for (size_t i = 0; i < n; i++) {
-        if (f[i] >> 32 == 1) s[1 + party] |= 1ull << (uint32_t)f[i];
-        if (f[i] >> 32 == 2) s[9 + party] |= 1ull << (uint32_t)f[i];
-    }
-}
-
-/* A read goes by the pair at word 1 of a row, a take by that at word 3. */
-static inline uint32_t seek(uint64_t *s, size_t len, uint32_t party, uint32_t partition, int32_t key, const uint64_t *t,
-                            size_t n, uint64_t *result, size_t room, int at)
-{
-    uint8_t charges[PARTIES];
-    if (!sound(s, len, charges)) return 101;
     if (party > 7) return 102;
     if (n < 1 || n > FIELDS) return 103;
     if (bad_pair(partition, key)) return 104;
-    for (size_t i = 0; i < n; i++)
-        if (!put_field(t[i]) && t[i] != WILDCARD) return 105;
-    if (room < n) return 106;
-    if (!pair_held(s, party, partition, key) || !fields_held(s, party, t, n)) return 107;
-    uint64_t co = (uint64_t)(31 - key);
-    uint64_t *row = s + 17, *live = row + ROW * s[0];
-    for (; row < live; row += ROW) {
-        if (row[5] != n || row[at] != partition || row[at + 1] != co) continue;
-        size_t i = 0;
-        while (i < n && (t[i] == WILDCARD || t[i] == row[6 + i])) i++;
-        if (i < n) continue;
-        memcpy(result, row + 6, n * sizeof *t);
-        if (at == 3) {
-            memmove(row, row + ROW, (size_t)((char *)live - (char *)(row + ROW)));
-            memset(live - ROW, 0, ROW * sizeof *row);
-            s[0]--;
+    t->space = s;
+    t->fields = f;
+    t->found = 0;
+    t->count = low(n);
+    t->partition = partition;
+    t->key = (uint32_t)(31 - key);
+    start(t, at);
+    uint32_t kinds = 0;
+    for (uint32_t i = 0; i < low(n); i++) {
+        if (f[i] == WILDCARD) {
+            wildcard(t, i);
+            continue;
         }
-        gain(s, party, result, n);
-        return (uint32_t)n;
+        if (!sound_field(f[i])) return 105;
+        kinds |= high(f[i]);
+        literal(t, i, f[i]);
     }
+    finish(t);
+    if (room < n) return 106;
+    if (!pair_held(s, party, partition, key) || (kinds && !rights_held(s, party, f, low(n)))) return 107;
     return 0;
 }
 
-uint32_t space_read(uint64_t *s, size_t len, uint32_t party, uint32_t partition, int32_t key, const uint64_t *t, size_t n,
-                    uint64_t *result, size_t room)
+INLINE uint32_t seek(uint64_t *restrict s, uint64_t len, uint32_t party, uint32_t partition, int32_t key,
+                     const uint64_t *restrict f, uint64_t n, uint64_t *restrict result, uint64_t room, int at)
 {
-    return seek(s, len, party, partition, key, t, n, result, room, 1);
+    struct template t;
+    uint64_t charges;
+    if (len != WORDS) return 101;
+    uint32_t refusal = prepare(&t, s, party, partition, key, f, n, room, at);
+    if (refusal) return sound(s, &charges) ? refusal : 101;
+    if (!(at == READ ? sound_read(&t) : sound_take(&t))) return 101;
+    if (!t.found) return 0;
+    uint64_t *row = s + (t.found - s);
+    uint32_t count = low(n), kinds = 0;
+    for (uint32_t i = 0; i < count; i++) {
+        uint64_t w = row[FIELD + i];
+        kinds |= high(w);
+        result[i] = w;
+    }
+    if (at == TAKE) {
+        uint64_t *live = s + FIRST + ROW * low(s[0]);
+        close_up(row, live);
+        clean(live - ROW, 1);
+        s[0] = low(s[0]) - 1;
+    }
+    if (kinds) gain(s, party, result, count);
+    return count;
 }
 
-uint32_t space_take(uint64_t *s, size_t len, uint32_t party, uint32_t partition, int32_t key, const uint64_t *t, size_t n,
-                    uint64_t *result, size_t room)
+uint32_t plain_read(uint64_t *restrict s, uint64_t len, uint32_t party, uint32_t partition, int32_t key,
+                    const uint64_t *restrict f, uint64_t n, uint64_t *restrict result, uint64_t room)
 {
-    return seek(s, len, party, partition, key, t, n, result, room, 3);
+    return seek(s, len, party, partition, key, f, n, result, room, READ);
+}
+
+uint32_t plain_take(uint64_t *restrict s, uint64_t len, uint32_t party, uint32_t partition, int32_t key,
+                    const uint64_t *restrict f, uint64_t n, uint64_t *restrict result, uint64_t room)
+{
+    return seek(s, len, party, partition, key, f, n, result, room, TAKE);
 }

@@ -10,7 +10,7 @@ static uint64_t space[WORDS];
 static void show(int number, uint32_t answer, int is_put, const uint64_t *result)
 {
     if (answer > 100) {
-        printf("%d no%u -\n", number, answer - 100);
+        printf("%d no%u -\n", number, (unsigned)answer - 100);
     } else if (answer == 0) {
         printf("%d %s -\n", number, is_put ? "done" : "none");
     } else {
@@ -27,7 +27,7 @@ int main(void)
     const uint64_t entry[2] = {7, 120}, first[2] = {7, ANY}, any[2] = {ANY, ANY};
     uint64_t result[ROOM];
 
-    printf("open %u\n", space_open(space, WORDS, roster, 16));
+    printf("open %u\n", (unsigned)space_open(space, WORDS, roster, 16));
     show(1, space_put(space, WORDS, 0, 5, 4, 5, 4, entry, 2), 1, result);
     show(2, space_read(space, WORDS, 1, 5, -4, first, 2, result, ROOM), 0, result);
     show(3, space_take(space, WORDS, 0, 5, -4, any, 2, result, ROOM), 0, result);

@@ -1,0 +1,189 @@
+/* The bench's workloads, on the desk and on the emulated boards. Linked once with the proved library and once with plain.c under
+   the same names (see run). Each round is made on a space that is put back before it.
+
+   On a board, under `-icount shift=0`, every instruction takes 1 ns of the emulated clock, and a tick of SysTick, at 25 MHz, is 40
+   of them. Each workload runs 80 times from phases of the tick that differ, so that the sum of the ticks is twice the instructions.
+   It prints a line for each workload: its letter, instructions, deepest stack in bytes.
+
+   On the desk: `workloads LETTER count` makes one round in `measured`, for callgrind to count; `workloads LETTER time` prints
+   nanoseconds a round; `workloads LETTER stack` prints the deepest stack in bytes. */
+#include "space.h"
+#include <stdio.h>
+#include <stdlib.h>
+#include <string.h>
+
+#define ANY (3ull << 32)
+enum { WORDS = 1809, ROWS = 128, ROW = 14, PAINT = 0xA5 };
+#define APART __attribute__((noinline, noclone))
+
+static uint64_t space[WORDS], kept[WORDS], roster[16], result[8];
+static const uint64_t one[1] = {5}, any1[1] = {ANY}, any8[8] = {ANY, ANY, ANY, ANY, ANY, ANY, ANY, ANY};
+static const uint64_t last[8] = {1, 2, 3, 4, 5, 6, 7, 227}, entry[8] = {1, 2, 3, 4, 5, 6, 7, 8};
+
+static uint32_t nothing(void) { return 0; }
+static uint32_t put_take(void) { return space_put(space, WORDS, 0, 0, 0, 0, 0, one, 1) + space_take(space, WORDS, 0, 0, 0, any1, 1, result, 8); }
+static uint32_t read_last(void) { return space_read(space, WORDS, 0, 0, 0, last, 8, result, 8); }
+static uint32_t take_oldest_put(void)
+{
+    uint32_t found = space_take(space, WORDS, 0, 0, 0, any8, 8, result, 8);
+    return found + space_put(space, WORDS, 0, 0, 0, 0, 0, result, 8);
+}
+static uint32_t read_refused(void) { return space_read(space, WORDS, 0, 40, 0, last, 8, result, 8); }
+static uint32_t open_(void) { return space_open(space, WORDS, roster, 16); }
+static uint32_t put1(void) { return space_put(space, WORDS, 0, 0, 0, 0, 0, one, 1); }
+static uint32_t read1(void) { return space_read(space, WORDS, 0, 0, 0, any1, 1, result, 8); }
+static uint32_t put8(void) { return space_put(space, WORDS, 7, 0, 0, 0, 0, entry, 8); }
+static uint32_t read_elsewhere(void) { return space_read(space, WORDS, 0, 3, 0, last, 8, result, 8); }
+static uint32_t take_oldest(void) { return space_take(space, WORDS, 0, 0, 0, any8, 8, result, 8); }
+static uint32_t take_last(void) { return space_take(space, WORDS, 0, 0, 0, last, 8, result, 8); }
+
+/* live entries before the round, and the sum of the answers */
+static const struct workload {
+    char letter;
+    uint32_t live, sum, (*round)(void);
+} workloads[] = {
+    {'.', 0, 0, nothing},
+    {'a', 0, 0 + 1, put_take},
+    {'b', 128, 8, read_last},
+    {'c', 128, 8 + 0, take_oldest_put},
+    {'d', 128, 107, read_refused},
+    {'e', 128, 0, open_},
+    {'f', 0, 0, put1},
+    {'g', 0, 0, read1},
+    {'h', 127, 0, put8},
+    {'i', 128, 108, put8},
+    {'j', 128, 0, read_elsewhere},
+    {'k', 128, 8, take_oldest},
+    {'l', 128, 8, take_last},
+};
+enum { WORKLOADS = sizeof workloads / sizeof *workloads };
+
+/* Words written as they stand, so that nothing but the round calls the library. Party p writes 16 rows of 8 messages, under the
+   defaults; everybody holds partitions 0 to 7 and keys -31 to -24 and 0. */
+static void prepare(uint32_t live)
+{
+    memset(kept, 0, sizeof kept);
+    kept[0] = live;
+    for (uint32_t i = 0; i < 8; i++) {
+        roster[i] = roster[8 + i] = 255;
+        kept[1 + i] = 255;
+        kept[9 + i] = 255 | 1ull << 31;
+    }
+    for (uint32_t r = 0; r < live; r++) {
+        uint64_t row[ROW] = {r / 16, 0, 31, 0, 31, 8, 1, 2, 3, 4, 5, 6, 7, 100 + r};
+        memcpy(kept + 17 + ROW * r, row, sizeof row);
+    }
+}
+
+static void put_back(void) { memcpy(space, kept, sizeof space); }
+static volatile uint32_t answer;
+APART void measured(const struct workload *w) { answer = w->round(); }
+
+/* All of the stack below this frame is painted, the round is made, and the lowest byte that changed is looked for. */
+static APART uint32_t deepest(const struct workload *w, unsigned char *from)
+{
+    unsigned char *top = __builtin_frame_address(0);
+#ifdef __arm__
+    __asm__ volatile("mov %0, sp" : "=r"(top));
+#else
+    __asm__ volatile("mov %%rsp, %0" : "=r"(top));
+    from = top - 16384;
+#endif
+    put_back();
+    for (volatile unsigned char *p = from; p < top; p++) *p = PAINT;
+    w->round();
+    volatile unsigned char *low = from;
+    while (low < top && *low == PAINT) low++;
+    return (uint32_t)(top - low);
+}
+
+#ifdef __arm__
+#define SYSTICK_CONTROL (*(volatile uint32_t *)0xE000E010)
+#define SYSTICK_RELOAD (*(volatile uint32_t *)0xE000E014)
+#define SYSTICK_NOW (*(volatile uint32_t *)0xE000E018)
+extern unsigned char end[];
+
+static APART uint32_t instructions(const struct workload *w)
+{
+    uint32_t ticks = 0;
+    for (uint32_t phase = 0; phase < 80; phase++) {
+        put_back();
+        for (volatile uint32_t i = 0; i < phase % 40; i++) continue;
+        uint32_t from = SYSTICK_NOW;
+        measured(w);
+        ticks += (from - SYSTICK_NOW) & 0xffffff;
+    }
+    return ticks / 2;
+}
+
+/* 2,000 instructions, to see the count right */
+static uint32_t two_thousand(void)
+{
+    uint32_t n = 1000;
+    __asm__ volatile(".syntax unified\n1: subs %0, #1\n bne 1b\n" : "+l"(n) : : "cc");
+    return n;
+}
+
+#ifndef TRACED
+int main(void)
+{
+    static const struct workload known = {'=', 0, 0, two_thousand};
+    SYSTICK_RELOAD = 0xffffff, SYSTICK_NOW = 0, SYSTICK_CONTROL = 5;
+    prepare(0);
+    uint32_t around = instructions(&workloads[0]);
+    printf("= %u 0\n", (unsigned)(instructions(&known) - around));
+    for (uint32_t i = 1; i < WORKLOADS; i++) {
+        const struct workload *w = &workloads[i];
+        prepare(w->live);
+        uint32_t count = instructions(w) - around;
+        if (answer != w->sum) return printf("FAILED: %c answers %u\n", w->letter, (unsigned)answer), 1;
+        printf("%c %u %u\n", w->letter, (unsigned)count, (unsigned)deepest(w, end));
+    }
+    return 0;
+}
+#else
+/* One workload between two marks, for a trace of every instruction. */
+APART void mark(void) { __asm__ volatile("nop"); }
+int main(void)
+{
+    for (uint32_t i = 0; i < WORKLOADS; i++)
+        if (workloads[i].letter == TRACED) {
+            prepare(workloads[i].live);
+            put_back();
+            mark();
+            measured(&workloads[i]);
+            mark();
+        }
+    return 0;
+}
+#endif
+#else
+#include <time.h>
+
+static double nanoseconds(const struct workload *w, int rounds)
+{
+    struct timespec from, to;
+    clock_gettime(CLOCK_MONOTONIC, &from);
+    for (int i = 0; i < rounds; i++) put_back(), measured(w);
+    clock_gettime(CLOCK_MONOTONIC, &to);
+    return ((double)(to.tv_sec - from.tv_sec) * 1e9 + (double)(to.tv_nsec - from.tv_nsec)) / rounds;
+}
+
+int main(int argc, char **argv)
+{
+    if (argc != 3) return 2;
+    for (uint32_t i = 0; i < WORKLOADS; i++) {
+        const struct workload *w = &workloads[i];
+        if (w->letter != argv[1][0]) continue;
+        prepare(w->live);
+        put_back();
+        answer = w->round(); /* the first time also binds what the call links to */
+        if (answer != w->sum) return printf("%c answers %u\n", w->letter, (unsigned)answer), 1;
+        put_back();
+        if (!strcmp(argv[2], "count")) measured(w);
+        else if (!strcmp(argv[2], "stack")) printf("%u\n", (unsigned)deepest(w, 0));
+        else printf("%.1f\n", nanoseconds(w, 3000) - nanoseconds(&workloads[0], 3000));
+    }
+    return 0;
+}
+#endif

@@ -1,0 +1,97 @@
+/* Calls at random: most of them sensible, so that tables fill and templates match, and some wrong in each way that there is. */
+#ifndef CALLS_H
+#define CALLS_H
+#include "random.h"
+#include "words.h"
+
+enum kind { OPEN, PUT, READ, TAKE, KINDS };
+
+struct call {
+    enum kind kind;
+    uint32_t party, partition[2];
+    int32_t key[2];
+    uint64_t space_len, count, room;
+    uint64_t list[18]; /* the roster, or the fields */
+};
+
+/* what is given to each party: all of the few partitions and keys that the calls name, but for parties 6 and 7 */
+#define KEYS_3_TO_2 (63ull << 28) /* keys -3 to 2 */
+static const uint64_t usual_roster[ROSTER] = {7, 7, 7, 7, 7, 7, 7, 3, KEYS_3_TO_2, KEYS_3_TO_2, KEYS_3_TO_2, KEYS_3_TO_2, KEYS_3_TO_2,
+                                              KEYS_3_TO_2, 7ull << 30, 3ull << 30};
+
+/* The order of evaluation is left open within an expression of C, so no expression here has two numbers whose order matters. */
+
+/* a word at the edges of the kinds' ranges */
+static inline uint64_t edge(void)
+{
+    uint64_t kind = below(6);
+    return kind << 32 | below(80);
+}
+
+static inline uint64_t a_field(int in_template)
+{
+    uint32_t at = below(1000);
+    if (at < 3) return any64(); /* bad, nearly always */
+    if (at < 8) return edge();
+    if (at < 10 || (in_template && at < 400)) return WILDCARD;
+    if (at < 860) return below(3);
+    if (at < 880) return (uint32_t)any64();
+    return at < 940 ? PARTITION_FIELD + below(4) : KEY_FIELD + 28 + below(6);
+}
+
+/* A template that a live row matches, now and then with a wildcard for a field. */
+static inline void a_match(struct call *c, const uint64_t *space)
+{
+    const uint64_t *row = space + row_at(below((uint32_t)space[0]));
+    uint32_t pair = c->kind == READ ? READ_PARTITION : TAKE_PARTITION;
+    c->partition[0] = (uint32_t)row[pair];
+    c->key[0] = 31 - (int32_t)row[pair + 1];
+    c->count = row[COUNT];
+    for (uint32_t i = 0; i < MOST_FIELDS; i++) c->list[i] = below(3) ? row[FIELDS + i] : WILDCARD;
+}
+
+/* Lengths that need more than 32 bits, most of them with the right number in the lower half. */
+static inline uint64_t lengthened(uint64_t length)
+{
+    uint64_t lower = below(4) ? length : below(20);
+    uint64_t upper = 1 + below(9);
+    return lower | upper << (32 + below(28));
+}
+
+static inline void a_roster(struct call *c)
+{
+    c->count = seldom(8) ? below(18) : seldom(8) ? lengthened(ROSTER) : ROSTER;
+    for (uint32_t i = 0; i < 18; i++) c->list[i] = usual_roster[i % ROSTER] | (any64() & any64() & ~(1ull << 63));
+    if (seldom(4)) c->list[below(ROSTER)] |= 1ull << 63;
+}
+
+/* A put that its party is allowed, whoever it is. */
+static inline void a_plain_put(struct call *c)
+{
+    c->partition[0] = c->partition[1] = 0;
+    c->key[0] = c->key[1] = 0;
+    for (uint32_t i = 0; i < MOST_FIELDS; i++) c->list[i] = below(3);
+}
+
+static inline void a_call(struct call *c, const uint64_t *space, uint32_t percent_puts)
+{
+    uint32_t at = below(1000);
+    int some_rows = space[0] - 1 < ROWS;
+    c->kind = at < 5 ? OPEN : at < 10 * percent_puts ? PUT : seldom(2) ? READ : TAKE;
+    c->party = seldom(200) ? (uint32_t)any64() : below(PARTIES);
+    for (uint32_t i = 0; i < 2; i++) {
+        c->partition[i] = seldom(300) ? (seldom(2) ? 60 + below(8) : (uint32_t)any64()) : below(3);
+        c->key[i] = seldom(300) ? (seldom(2) ? (int32_t)below(70) - 35 : (int32_t)any64()) : (int32_t)below(5) - 2;
+    }
+    c->space_len = !seldom(250) ? WORDS : seldom(2) ? WORDS - 1 : below(WORDS);
+    c->count = seldom(60) ? below(12) : below(3) ? 1 + below(2) : 1 + below(MOST_FIELDS);
+    c->room = seldom(30) ? below(MOST_FIELDS) : MOST_FIELDS;
+    if (c->kind == OPEN) a_roster(c);
+    else for (uint32_t i = 0; i < 18; i++) c->list[i] = a_field(c->kind != PUT);
+    if (c->kind == PUT && percent_puts > 90 && seldom(2)) a_plain_put(c);
+    if (c->kind > PUT && some_rows && seldom(2)) a_match(c, space);
+    if (seldom(200)) c->space_len = lengthened(c->space_len);
+    if (seldom(100)) c->count = lengthened(c->count);
+    if (seldom(100)) c->room = lengthened(c->room);
+}
+#endif

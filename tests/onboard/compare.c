@@ -1,0 +1,179 @@
+/* The proved library against plain C, call by call, on the machine that this runs on: the answer, every word of space and result,
+   what was lent to be read, and guard words around all of it. Prints how often each answer was seen and a hash of the whole
+   sequence, which is the same on every machine. Ends with status 1 where the two differ, or where something was never tried. */
+#include "calls.h"
+#include "plain.h"
+#include "space.h"
+#include <stdio.h>
+
+#ifndef CALLS
+#define CALLS 120000
+#endif
+enum { GUARDS = 8, BLOCK = 400, ANSWERS = 110 };
+
+struct lent {
+    uint64_t before[GUARDS], space[WORDS], between[GUARDS], result[MOST_FIELDS], after[GUARDS];
+};
+enum { LENT = sizeof(struct lent) / sizeof(uint64_t) };
+static struct lent proved, plain;
+
+static uint64_t guard(uint32_t at) { return 0x6A09E667F3BCC909u + at; }
+
+typedef uint32_t seek_call(uint64_t *, uint64_t, uint32_t, uint32_t, int32_t, const uint64_t *, uint64_t, uint64_t *, uint64_t);
+static const struct side {
+    uint32_t (*open)(uint64_t *, uint64_t, const uint64_t *, uint64_t);
+    uint32_t (*put)(uint64_t *, uint64_t, uint32_t, uint32_t, int32_t, uint32_t, int32_t, const uint64_t *, uint64_t);
+    seek_call *read, *take;
+} library = {space_open, space_put, space_read, space_take}, by_hand = {plain_open, plain_put, plain_read, plain_take};
+
+static uint32_t make(const struct side *by, struct lent *on, const struct call *c)
+{
+    uint64_t *s = on->space;
+    if (c->kind == OPEN) return by->open(s, c->space_len, c->list, c->count);
+    if (c->kind == PUT)
+        return by->put(s, c->space_len, c->party, c->partition[0], c->key[0], c->partition[1], c->key[1], c->list, c->count);
+    return (c->kind == READ ? by->read : by->take)(s, c->space_len, c->party, c->partition[0], c->key[0], c->list, c->count,
+                                                   on->result, c->room);
+}
+
+/* One bit of the space turned over, by the clause of soundness that it should break; 0 where the space has no place for that. */
+enum { FIRST_CLAUSE = 2, CLAUSES = 10 }; /* S2 to S9 of docs/RULES.md */
+
+static int damage(uint32_t clause, const uint64_t *space, uint32_t *word, uint64_t *bits)
+{
+    uint32_t live = (uint32_t)space[0], at = live ? row_at(below(live)) : 0;
+    *bits = 1ull << below(64);
+    switch (clause) {
+    case 2: return *word = 0, *bits = 1ull << (8 + below(56)), 1;
+    case 3: return *word = PARTITIONS_AT + below(PARTIES), *bits = 1, 1;
+    case 4: return *word = KEYS_AT + below(PARTIES), *bits = 1ull << 31, 1;
+    case 5: return *word = KEYS_AT + below(PARTIES), *bits = 1ull << 63, 1;
+    case 6: return *word = at + (seldom(2) ? below(FIELDS) : FIELDS), *bits = 1ull << (6 + below(58)), live > 0;
+    case 7: return *word = at + ROW - 1, live > 0 && space[at + COUNT] < MOST_FIELDS;
+    case 8: return *word = at, *bits = 1 + below(PARTIES - 1), live > 0;
+    default: return *word = row_at(live) + below(ROW), live < ROWS;
+    }
+}
+
+static uint32_t answers[KINDS][ANSWERS], damaged[CLAUSES], long_space, long_roster, long_fields, long_result, bound_63, most_rows;
+static uint64_t hash = 0xcbf29ce484222325u;
+
+static void hash_in(uint64_t word) { hash = (hash ^ word) * 0x100000001b3u; }
+
+static void count(const struct call *c, uint32_t answer)
+{
+    answers[c->kind][answer]++;
+    if (c->space_len >> 32) long_space++;
+    else if (c->count >> 32) *(c->kind == OPEN ? &long_roster : &long_fields) += answer == (c->kind == OPEN ? 109 : 103);
+    else if (c->kind > PUT && c->room >> 32) long_result += answer - 1 < MOST_FIELDS;
+    if (c->kind == OPEN && answer == 109 && c->count == ROSTER) bound_63++;
+    if (proved.space[0] <= ROWS && proved.space[0] > most_rows) most_rows = (uint32_t)proved.space[0];
+    hash_in(answer);
+    for (uint32_t i = 0; i < MOST_FIELDS; i++) hash_in(proved.result[i]);
+}
+
+/* what differs after a call, in a word; nothing where all is alike */
+static const char *difference(uint32_t by_library, uint32_t by_c, const struct call *now, const struct call *before)
+{
+    const uint64_t *a = (const uint64_t *)&proved, *b = (const uint64_t *)&plain, *c = now->list, *d = before->list;
+    if (by_library != by_c || by_library >= ANSWERS) return "answer";
+    for (uint32_t i = 0; i < LENT; i++)
+        if (a[i] != b[i]) return "words";
+    for (uint32_t i = 0; i < GUARDS; i++)
+        if (proved.before[i] != guard(i) || proved.between[i] != guard(GUARDS + i) || proved.after[i] != guard(2 * GUARDS + i)) return "guards";
+    for (uint32_t i = 0; i < 18; i++)
+        if (c[i] != d[i]) return "fields lent";
+    return 0;
+}
+
+static uint32_t one_call(const struct call *c, uint32_t number)
+{
+    struct call kept = *c;
+    uint32_t a = make(&library, &proved, c), b = make(&by_hand, &plain, c);
+    const char *what = difference(a, b, c, &kept);
+    if (what) {
+        printf("FAILED at call %u, a call of kind %u: %s: %u and %u\n", (unsigned)number, (unsigned)c->kind, what, (unsigned)a, (unsigned)b);
+        return ANSWERS;
+    }
+    count(c, a);
+    return a;
+}
+
+static void turn(uint32_t word, uint64_t bits) { proved.space[word] ^= bits, plain.space[word] ^= bits; }
+
+/* A call on a damaged space. What a refusal leaves is mended again. */
+static uint32_t damaged_call(const struct call *c, uint32_t number)
+{
+    uint32_t word, clause = FIRST_CLAUSE + below(CLAUSES - FIRST_CLAUSE);
+    uint64_t bits;
+    if (!damage(clause, proved.space, &word, &bits)) return one_call(c, number);
+    turn(word, bits);
+    uint32_t answer = one_call(c, number);
+    if (answer == 101) turn(word, bits), damaged[clause] += c->kind != OPEN && c->space_len == WORDS;
+    return answer;
+}
+
+static int all_calls(void)
+{
+    static struct call c;
+    uint32_t percent_puts = 0;
+    for (uint32_t n = 0; n < CALLS; n++) {
+        uint32_t in_block = n % BLOCK;
+        if (in_block == 0) percent_puts = n / BLOCK % 3 == 0 ? 95 : 20 + below(50);
+        a_call(&c, proved.space, percent_puts);
+        if (in_block == 0) {
+            c = (struct call){.kind = OPEN, .count = ROSTER, .space_len = WORDS};
+            for (uint32_t i = 0; i < ROSTER; i++) c.list[i] = usual_roster[i];
+            for (uint32_t i = 0; i < WORDS; i++) hash_in(proved.space[i]);
+        }
+        uint32_t answer = in_block && proved.space[0] <= ROWS && seldom(20) ? damaged_call(&c, n) : one_call(&c, n);
+        if (answer == ANSWERS) return 0;
+    }
+    return 1;
+}
+
+/* Prints a number that must not be 0. */
+static int tried(const char *what, uint32_t times)
+{
+    printf("%s %u%s\n", what, (unsigned)times, times ? "" : " FAILED: never tried");
+    return times > 0;
+}
+
+static int all_tried(void)
+{
+    static const char *const names[] = {"open", "put", "read", "take"};
+    int ok = 1;
+    for (uint32_t kind = 0; kind < KINDS; kind++)
+        for (uint32_t a = 0; a < ANSWERS; a++) {
+            int found = kind > PUT && a >= 1 && a <= MOST_FIELDS;
+            int refusal = kind == OPEN ? a == 101 || a == 109 : a >= 101 && a <= 108 && a != (kind == PUT ? 106 : 108);
+            char what[32];
+            snprintf(what, sizeof what, "%s answered %u:", names[kind], (unsigned)a);
+            if (a == 0 || found || refusal) ok &= tried(what, answers[kind][a]);
+            else if (answers[kind][a]) ok = 0, printf("FAILED: %s %u\n", what, (unsigned)answers[kind][a]);
+        }
+    for (uint32_t clause = FIRST_CLAUSE; clause < CLAUSES; clause++) {
+        char what[32];
+        snprintf(what, sizeof what, "damage refused, S%u:", (unsigned)clause);
+        ok &= tried(what, damaged[clause]);
+    }
+    ok &= tried("lengths of 2^32 and more, space:", long_space) & tried("roster:", long_roster) & tried("fields:", long_fields);
+    ok &= tried("result, and found:", long_result) & tried("bit 63 in a roster:", bound_63);
+    printf("most live rows %u%s\n", (unsigned)most_rows, most_rows == ROWS ? "" : " FAILED: never full");
+    return ok && most_rows == ROWS;
+}
+
+int main(void)
+{
+    uint64_t *a = (uint64_t *)&proved, *b = (uint64_t *)&plain;
+    seed = 42;
+    for (uint32_t i = 0; i < LENT; i++) a[i] = b[i] = any64();
+    for (uint32_t i = 0; i < GUARDS; i++) {
+        proved.before[i] = plain.before[i] = guard(i);
+        proved.between[i] = plain.between[i] = guard(GUARDS + i);
+        proved.after[i] = plain.after[i] = guard(2 * GUARDS + i);
+    }
+    if (!all_calls() || !all_tried()) return 1;
+    printf("hash %08x%08x\n%u calls alike\n", (unsigned)(hash >> 32), (unsigned)hash, (unsigned)CALLS);
+    return 0;
+}

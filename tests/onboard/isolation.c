@@ -1,0 +1,170 @@
+/* Pairs of runs on the machine that this runs on: a watched group makes the same calls in both, everybody else makes calls of
+   their own that keep the premise (G7 of docs/RULES.md). The group's answers and fields, its live entries and its holdings must
+   be the same in both, and no member may come to hold a name that is not the group's. */
+#include "calls.h"
+#include "space.h"
+#include <stdio.h>
+
+#ifndef PAIRS
+#define PAIRS 400
+#endif
+enum { STEPS = 90, MOST_OTHERS = 4 };
+
+static uint64_t space[2][WORDS];
+static uint32_t group;                      /* a bit for each member */
+static uint64_t partitions, keys;           /* G4: the group's names */
+static uint32_t compared, found, others_done, others_found, entries, names_gained;
+
+static int member(uint32_t party) { return party < PARTIES && group >> party & 1; }
+
+/* G5, G6: the names include the partition and the co-key. Keys are small here. */
+static int reached(uint32_t partition, int32_t key) { return partitions >> partition & keys >> (31 - key) & 1; }
+
+static int in_grasp(const struct call *c)
+{
+    if (c->kind == READ) return 0;
+    return reached(c->partition[0], c->key[0]) || (c->kind == PUT && reached(c->partition[1], c->key[1]));
+}
+
+/* About three in four of the bits. */
+static uint64_t most_of(uint64_t bits) { return bits & (any64() | any64()); }
+
+/* Both openings give the members the same, of partitions 0 to 3 and keys -3 to 3; what the others get, of more, differs. */
+static void open_both(void)
+{
+    uint64_t roster[2][ROSTER];
+    group = 1 + below(254);
+    partitions = 1, keys = 1ull << 31;
+    for (uint32_t p = 0; p < PARTIES; p++)
+        if (member(p)) {
+            partitions |= roster[0][p] = roster[1][p] = most_of(0xF);
+            keys |= roster[0][8 + p] = roster[1][8 + p] = most_of(0x7Full << 28);
+        } else
+            for (uint32_t run = 0; run < 2; run++) {
+                roster[run][p] = most_of(0x3FF);
+                roster[run][8 + p] = most_of(0x1FFFull << 25);
+            }
+    for (uint32_t run = 0; run < 2; run++) {
+        for (uint32_t i = 0; i < WORDS; i++) space[run][i] = any64();
+        space_open(space[run], WORDS, roster[run], ROSTER);
+    }
+}
+
+static uint32_t make(uint32_t run, const struct call *c, uint64_t *result)
+{
+    uint64_t *s = space[run];
+    switch (c->kind) {
+    case PUT: return space_put(s, WORDS, c->party, c->partition[0], c->key[0], c->partition[1], c->key[1], c->list, c->count);
+    case READ: return space_read(s, WORDS, c->party, c->partition[0], c->key[0], c->list, c->count, result, c->room);
+    default: return space_take(s, WORDS, c->party, c->partition[0], c->key[0], c->list, c->count, result, c->room);
+    }
+}
+
+/* A call that names some of the first partitions, and keys from -most to most; a template has mostly wildcards. */
+static void a_run_call(struct call *c, uint32_t first, int32_t most)
+{
+    c->kind = seldom(2) ? PUT : seldom(2) ? READ : TAKE;
+    for (uint32_t i = 0; i < 2; i++) {
+        c->partition[i] = below(first);
+        c->key[i] = (int32_t)below(2 * (uint32_t)most + 1) - most;
+    }
+    c->count = seldom(40) ? below(10) : seldom(4) ? 2 : 1;
+    c->room = seldom(40) ? below(2) : MOST_FIELDS;
+    for (uint32_t i = 0; i < 10; i++) {
+        uint64_t name = seldom(2) ? PARTITION_FIELD + below(first) : KEY_FIELD + 31 - (uint32_t)most + below(2 * (uint32_t)most + 1);
+        c->list[i] = c->kind != PUT && below(4) ? WILDCARD : below(4) ? below(3) : name;
+    }
+}
+
+static uint32_t a_party(int inside)
+{
+    if (!inside && seldom(20)) return PARTIES + below(3);
+    for (;;) {
+        uint32_t p = below(PARTIES);
+        if (member(p) == inside) return p;
+    }
+}
+
+/* A call from elsewhere in one run. One that would break the premise is made in a form that is refused. */
+static void other_call(uint32_t run)
+{
+    struct call c;
+    uint64_t result[MOST_FIELDS];
+    a_run_call(&c, 10, 6);
+    c.party = a_party(0);
+    if (in_grasp(&c)) c.count = seldom(2) ? 0 : 9;
+    uint32_t answer = make(run, &c, result);
+    if (c.kind == PUT) others_done += answer == 0;
+    else others_found += answer - 1 < MOST_FIELDS;
+}
+
+static int group_call(void)
+{
+    struct call c;
+    uint64_t result[2][MOST_FIELDS];
+    uint32_t answer[2];
+    a_run_call(&c, 4, 3);
+    c.party = a_party(1);
+    for (uint32_t run = 0; run < 2; run++) {
+        for (uint32_t i = 0; i < MOST_FIELDS; i++) result[run][i] = any64();
+        answer[run] = make(run, &c, result[run]);
+    }
+    compared++;
+    if (answer[0] != answer[1]) return 0;
+    if (c.kind == PUT || answer[0] - 1 >= MOST_FIELDS) return 1;
+    found++;
+    for (uint32_t i = 0; i < answer[0]; i++) {
+        if (result[0][i] != result[1][i]) return 0;
+        names_gained += result[0][i] >> 32 != 0;
+    }
+    return 1;
+}
+
+/* the place of the next live entry of the group at or after a row; ROWS where there is none */
+static uint32_t next_of_group(uint32_t run, uint32_t row)
+{
+    while (row < space[run][0] && !member((uint32_t)space[run][row_at(row) + WRITER])) row++;
+    return row < space[run][0] ? row : ROWS;
+}
+
+/* G8, G9 */
+static int same_after(void)
+{
+    for (uint32_t a = next_of_group(0, 0), b = next_of_group(1, 0);; a = next_of_group(0, a + 1), b = next_of_group(1, b + 1)) {
+        if (a == ROWS || b == ROWS) {
+            if (a != b) return 0;
+            break;
+        }
+        entries++;
+        for (uint32_t i = 0; i < ROW; i++)
+            if (space[0][row_at(a) + i] != space[1][row_at(b) + i]) return 0;
+    }
+    for (uint32_t p = 0; p < PARTIES; p++)
+        for (uint32_t run = 0; run < 2 && member(p); run++) {
+            if (space[run][PARTITIONS_AT + p] != space[0][PARTITIONS_AT + p] || space[run][KEYS_AT + p] != space[0][KEYS_AT + p]) return 0;
+            if (space[run][PARTITIONS_AT + p] & ~partitions || space[run][KEYS_AT + p] & ~keys) return 0;
+        }
+    return 1;
+}
+
+int main(void)
+{
+    seed = 7;
+    for (uint32_t pair = 0; pair < PAIRS; pair++) {
+        open_both();
+        for (uint32_t step = 0; step < STEPS; step++) {
+            for (uint32_t run = 0; run < 2; run++)
+                for (uint32_t k = below(MOST_OTHERS + 1); k > 0; k--) other_call(run);
+            if (!group_call() || !same_after()) {
+                printf("FAILED: pair %u, step %u: a neighbour was felt\n", (unsigned)pair, (unsigned)step);
+                return 1;
+            }
+        }
+    }
+    printf("group calls compared %u, of them found %u, with names gained %u, entries compared %u\n", (unsigned)compared,
+           (unsigned)found, (unsigned)names_gained, (unsigned)entries);
+    printf("others' puts done %u, others' entries found %u\n", (unsigned)others_done, (unsigned)others_found);
+    if (!compared || !found || !names_gained || !entries || !others_done || !others_found) return printf("FAILED: a count is 0\n"), 1;
+    printf("%u pairs of runs alike\n", (unsigned)PAIRS);
+    return 0;
+}

@@ -1,0 +1,68 @@
+"""board/module.py takes the library's module for each core, changing three lines, and refuses every doctored one: modules.py DESK.ll
+
+Each doctored file differs from the true one in one place, and must be refused by one line of text that has the given words.
+"""
+import pathlib
+import subprocess
+import sys
+import tempfile
+
+TRUE = {
+    "module": pathlib.Path(sys.argv[1]).read_text(),
+    "header": pathlib.Path("include/space.h").read_text(),
+    "source": pathlib.Path("crates/space_c/src/lib.rt").read_text(),
+}
+# what is wrong, the file, the text once, the text instead, words of the refusal
+DOCTORED = [
+    ("a pointer as a number", "module", "  ret i32 %r4\n", "  %x = ptrtoint ptr %r0 to i64\n  ret i32 %r4\n", "no kind"),
+    ("a number as a pointer", "module", "  ret i32 %r4\n", "  %x = inttoptr i64 %a1 to ptr\n  ret i32 %r4\n", "no kind"),
+    ("pointers compared", "module", "  ret i32 %r4\n", "  %x = icmp eq ptr %a0, %a2\n  ret i32 %r4\n", "no kind"),
+    ("a step by the size of a pointer", "module", "getelementptr i8, ptr %r0, i64 8", "getelementptr ptr, ptr %r0, i64 1", "no kind"),
+    ("a variable outside the functions", "module", "\n\n; Function", "\n\n@x = global i64 0\n\n; Function", "no kind"),
+    ("assembler", "module", "  ret i32 %r4\n", '  call void asm sideeffect "nop", ""()\n  ret i32 %r4\n', "no kind"),
+    ("a slot read as pointer and as number", "module", "  ret i32 %r4\n", "  %x = load i64, ptr %r0, align 8\n  ret i32 %r4\n", "now a pointer, now a number"),
+    ("half of a pointer read", "module", "  ret i32 %r4\n", "  %x = getelementptr i8, ptr %r0, i64 4\n  %y = load i32, ptr %x, align 4\n  ret i32 %r4\n", "now a pointer, now a number"),
+    ("a pointer kept in lent words", "module", "  ret i32 %r4\n", "  %x = load ptr, ptr %r0, align 8\n  store ptr %a0, ptr %x, align 8\n  ret i32 %r4\n", "outside a slot"),
+    ("another layout of the desk", "module", "-n8:16:32:64-S128", "-n8:16:32:64", "should have this line once"),
+    ("a second line for the processor", "module", "attributes #1 = {", 'attributes #1 = { "target-cpu"="x86-64"', "more lines than one"),
+    ("a length of 32 bits in the module", "module", "@space_open(ptr noundef %a0, i64 noundef", "@space_open(ptr noundef %a0, i32 noundef", "the module has"),
+    ("lengths of size_t in the header", "header", "uint64_t space_len, const uint64_t *roster", "size_t space_len, const uint64_t *roster", "the header declares"),
+    ("an unsigned key in the header", "header", "int32_t read_key", "uint32_t read_key", "the header declares"),
+    ("a roster that may be written", "header", "const uint64_t *roster", "uint64_t *roster", "the header declares"),
+    ("a call that the header forgets", "header", "uint32_t space_take(", "uint32_t space_takes(", "the header declares"),
+    ("a call that the source doesn't export", "source", '#[no_mangle]\npub extern "C" fn space_put', 'pub extern "C" fn space_put', "the header declares"),
+]
+
+
+def run(core, files):
+    with tempfile.TemporaryDirectory() as folder:
+        paths = []
+        for name in ("module", "header", "source"):
+            paths.append(pathlib.Path(folder) / name)
+            paths[-1].write_text(files[name])
+        return subprocess.run([sys.executable, "board/module.py", core, *map(str, paths)], capture_output=True, text=True)
+
+
+passed = failed = 0
+
+
+def check(what, ok, why=""):
+    global passed, failed
+    passed, failed = passed + ok, failed + (not ok)
+    print(f"{'ok' if ok else 'FAILED'}: {what}{'' if ok else ': ' + why}")
+
+
+for core in ("cortex-m4", "cortex-m0plus"):
+    ran = run(core, TRUE)
+    changed = [a for a, b in zip(TRUE["module"].split("\n"), ran.stdout.split("\n")) if a != b]
+    same_length = TRUE["module"].count("\n") == ran.stdout.count("\n")
+    names = [line.split()[0] + " " + line.split()[1] for line in changed]
+    check(f"the module for {core} differs in three lines", same_length and names == ["target datalayout", "target triple", "attributes #0"], ran.stderr or str(changed))
+for what, name, old, new, words in DOCTORED:
+    if old not in TRUE[name]:
+        check(what, False, f"the {name} doesn't have: {old!r}")
+        continue
+    ran = run("cortex-m4", {**TRUE, name: TRUE[name].replace(old, new, 1)})
+    check(f"refused: {what}", ran.returncode == 1 and ran.stdout == "" and ran.stderr.count("\n") == 1 and words in ran.stderr, repr(ran.stderr))
+print(f"{passed} passed, {failed} failed")
+sys.exit(failed > 0)

@@ -1,0 +1,36 @@
+/* A program compiled with a header whose lengths are size_t: on a board with 32-bit pointers that is the wrong header, and nothing
+   at link time tells. Every such call must be refused at once, by 101, with no word changed, on a space that is sound and open.
+   Why it is: the library takes the space's length from two registers in which such a caller has passed other things, the roster's
+   address and length, or the party and a partition. They make 1,809 only where a party is called 1,809. */
+#include "space.h"
+#include "words.h"
+#include <stddef.h>
+#include <stdio.h>
+
+uint32_t old_open(uint64_t *, size_t, const uint64_t *, size_t) __asm__("space_open");
+uint32_t old_put(uint64_t *, size_t, uint32_t, uint32_t, int32_t, uint32_t, int32_t, const uint64_t *, size_t) __asm__("space_put");
+uint32_t old_read(uint64_t *, size_t, uint32_t, uint32_t, int32_t, const uint64_t *, size_t, uint64_t *, size_t) __asm__("space_read");
+uint32_t old_take(uint64_t *, size_t, uint32_t, uint32_t, int32_t, const uint64_t *, size_t, uint64_t *, size_t) __asm__("space_take");
+
+static uint64_t space[WORDS], before[WORDS], result[MOST_FIELDS];
+
+int main(void)
+{
+    const uint64_t roster[ROSTER] = {0}, entry[1] = {7}, any[1] = {WILDCARD};
+    uint32_t refused = 0, calls = 0;
+    if (space_open(space, WORDS, roster, ROSTER) || space_put(space, WORDS, 0, 0, 0, 0, 0, entry, 1)) return 1;
+    for (uint32_t i = 0; i < WORDS; i++) before[i] = space[i];
+    for (uint32_t party = 0; party < 10; party++)
+        for (uint32_t partition = 0; partition < 65; partition += 8, calls += 4) {
+            refused += old_open(space, WORDS, roster, ROSTER) == 101;
+            refused += old_put(space, WORDS, party, partition, 0, partition, 0, entry, 1) == 101;
+            refused += old_read(space, WORDS, party, partition, 0, any, 1, result, MOST_FIELDS) == 101;
+            refused += old_take(space, WORDS, party, partition, 0, any, 1, result, MOST_FIELDS) == 101;
+        }
+    for (uint32_t i = 0; i < WORDS; i++)
+        if (space[i] != before[i]) return printf("FAILED: word %u changed\n", (unsigned)i), 1;
+    for (uint32_t i = 0; i < MOST_FIELDS; i++)
+        if (result[i]) return printf("FAILED: result word %u changed\n", (unsigned)i), 1;
+    printf("%u of %u calls refused by 101\n", (unsigned)refused, (unsigned)calls);
+    return refused != calls;
+}

@@ -1,0 +1,22 @@
+/* For an emulated Cortex-M0 with 16 KB of RAM, which has no instruction beyond its own: the example's calls, told by the status
+   alone, since the space leaves no room for printf. The status is the number of the first answer that is wrong, or 0. */
+#include "space.h"
+#include "words.h"
+
+static uint64_t space[WORDS], result[MOST_FIELDS];
+
+int main(void)
+{
+    static const uint64_t roster[ROSTER] = {1ull << 5, 1ull << 5, [8] = 1ull << 35, 1ull << 27};
+    static const uint64_t entry[2] = {7, 120}, first[2] = {7, WILDCARD}, any[2] = {WILDCARD, WILDCARD};
+    if (space_open(space, WORDS, roster, ROSTER) != 0) return 1;
+    if (space_put(space, WORDS, 0, 5, 4, 5, 4, entry, 2) != 0) return 2;
+    if (space_read(space, WORDS, 1, 5, -4, first, 2, result, MOST_FIELDS) != 2 || result[1] != 120) return 3;
+    if (space_take(space, WORDS, 0, 5, -4, any, 2, result, MOST_FIELDS) != 107) return 4;
+    for (int i = 0; i < SHARE; i++)
+        if (space_put(space, WORDS, 1, 0, 0, 0, 0, any + 1, 1) != 105 || space_put(space, WORDS, 1, 0, 0, 0, 0, entry, 2) != 0) return 5;
+    if (space_put(space, WORDS, 1, 0, 0, 0, 0, entry, 2) != 108) return 6;
+    if (space_take(space, WORDS, 1, 5, -4, any, 2, result, MOST_FIELDS) != 2) return 7;
+    if (space_read(space, WORDS, 1, 5, -4, any, 2, result, MOST_FIELDS) != 0) return 8;
+    return 0;
+}

@@ -1,0 +1,15 @@
+/* The words of a space, as docs/RULES.md lays them out. */
+#ifndef WORDS_H
+#define WORDS_H
+#include <stdint.h>
+
+enum { WORDS = 1809, PARTIES = 8, ROWS = 128, ROW = 14, SHARE = 16, MOST_FIELDS = 8, ROSTER = 16 };
+enum { PARTITIONS_AT = 1, KEYS_AT = 9, ROWS_AT = 17 };
+enum { WRITER, READ_PARTITION, READ_KEY, TAKE_PARTITION, TAKE_KEY, COUNT, FIELDS };
+
+#define PARTITION_FIELD (1ull << 32)
+#define KEY_FIELD (2ull << 32)
+#define WILDCARD (3ull << 32)
+
+static inline uint32_t row_at(uint32_t row) { return ROWS_AT + ROW * row; }
+#endif
