@@ -1,6 +1,6 @@
 -- What a read line does to a session, and what a line adds to the output.
-use Prim.Native.Nat.{ℕ, suc, _+_}
-use mathlib.Core.Path.{_≡_, refl, sym, _∙_, subst}
+use Prim.Native.Nat.{ℕ, _+_}
+use mathlib.Core.Path.{_≡_, refl, sym, _∙_}
 use mathlib.Core.Logic.{_⊎_, inl, inr}
 use mathlib.Core.Bool.{Bool, true, false, not, cond, true≢false}
 use mathlib.Core.Option.{Option, none, some}
@@ -18,7 +18,8 @@ use Rattle.text.specs.Fields.{before, beyond, parts}
 use Rattle.text.proofs.Placing.{written-none}
 use Rattle.text.proofs.Parts.{take-before, last-part, further-parts}
 use Rattle.lines.specs.Lines.{give, ask, same, readLine}
-use Rattle.session.specs.Transcript.{Phase, giving, running, given, replyText, lineStep, unreadable, inputNames, outputNames, atEnd, transcript, fromStart}
+use Rattle.session.specs.Transcript.{Phase, giving, running, given, replyText, replying, lineStep}
+use Rattle.session.specs.Transcript.{unreadable, inputNames, outputNames, atEnd, transcript, fromStart}
 use Rattle.session.specs.Steps.{phaseOf, Ready, Goes, Replied}
 use Rattle.session.specs.declared.Session.{Session}
 
@@ -47,7 +48,7 @@ module _ (s : Session) (roster space line : List ℕ) where
   step-ask c e r = rw (add-one (s .calls)) (go (bool (s .opened)))
     where
       go : (s .opened ≡ true) ⊎ (s .opened ≡ false)
-          → lineStep (phaseOf s roster space) line ≡ some (running (call (openedSpace s roster space) c .space) (suc (s .calls)), replyText (suc (s .calls)) (call (openedSpace s roster space) c))
+          → lineStep (phaseOf s roster space) line ≡ replying (openedSpace s roster space) (s .calls) c
       go (inl o) = rw (e, o) refl
       go (inr o) = rw (e, o, r .fresh o, r .none o) refl
 

@@ -28,14 +28,14 @@ withName i (some c) roster = set roster i (withBit (getD roster i 0) c)
 unfoldable pub given : ℕ → Option ℕ → Option ℕ → List ℕ → List ℕ
 given who p k roster = withName (8 + who) k (withName who p roster)
 
--- T21: done, found, none, or `no` and the refusal
+-- T21: "done", "found", "none", or "no" and the refusal
 unfoldable pub answerText : Answer → List ℕ
 answerText done = 100 ∷ 111 ∷ 110 ∷ 101 ∷ []
 answerText (found n) = 102 ∷ 111 ∷ 117 ∷ 110 ∷ 100 ∷ []
 answerText nothing = 110 ∷ 111 ∷ 110 ∷ 101 ∷ []
 answerText (refused n) = 110 ∷ 111 ∷ decimal n
 
--- T21: the call's number, its answer, and the found fields or `-`
+-- T21: the call's number, its answer, and the found fields or `-`, with blanks (32) between and a line feed (10)
 unfoldable pub replyText : ℕ → Exit → List ℕ
 replyText n x =
     decimal n ++ (32 ∷ (answerText (x .answer) ++ (32 ∷ (renderFields (foundIn (x .answer) (x .result)) ++ (10 ∷ [])))))
@@ -61,23 +61,23 @@ stepBy ph (some l) = follow ph l
 unfoldable pub lineStep : Phase → List ℕ → Stepped
 lineStep ph line = stepBy ph (readLine line)
 
--- T22: `line N unreadable`
+-- T22: "line N unreadable" and a line feed
 unfoldable pub unreadable : ℕ → List ℕ
 unreadable n =
     (108 ∷ 105 ∷ 110 ∷ 101 ∷ 32 ∷ [])
     ++ (decimal n ++ (32 ∷ 117 ∷ 110 ∷ 114 ∷ 101 ∷ 97 ∷ 100 ∷ 97 ∷ 98 ∷ 108 ∷ 101 ∷ 10 ∷ []))
 
--- T23: `input too long`
+-- T23: "input too long" and a line feed
 unfoldable pub tooLong : List ℕ
 tooLong = 105 ∷ 110 ∷ 112 ∷ 117 ∷ 116 ∷ 32 ∷ 116 ∷ 111 ∷ 111 ∷ 32 ∷ 108 ∷ 111 ∷ 110 ∷ 103 ∷ 10 ∷ []
 
--- T24: the input's first line
+-- T24: the input's first line: "call party rpart rkey tpart tkey fields"
 unfoldable pub inputNames : List ℕ
 inputNames =
     99 ∷ 97 ∷ 108 ∷ 108 ∷ 32 ∷ 112 ∷ 97 ∷ 114 ∷ 116 ∷ 121 ∷ 32 ∷ 114 ∷ 112 ∷ 97 ∷ 114 ∷ 116 ∷ 32 ∷ 114 ∷ 107 ∷ 101 ∷ 121 ∷ 32 ∷ 116 ∷ 112
     ∷ 97 ∷ 114 ∷ 116 ∷ 32 ∷ 116 ∷ 107 ∷ 101 ∷ 121 ∷ 32 ∷ 102 ∷ 105 ∷ 101 ∷ 108 ∷ 100 ∷ 115 ∷ []
 
--- T24: the output's first line
+-- T24: the output's first line: "line answer fields" and a line feed
 unfoldable pub outputNames : List ℕ
 outputNames =
     108 ∷ 105 ∷ 110 ∷ 101 ∷ 32 ∷ 97 ∷ 110 ∷ 115 ∷ 119 ∷ 101 ∷ 114 ∷ 32 ∷ 102 ∷ 105 ∷ 101 ∷ 108 ∷ 100 ∷ 115 ∷ 10 ∷ []

@@ -1,4 +1,4 @@
--- `give` meets its contract.
+-- `give` meets its contract: it is too late once the space is open; before, the partition is added and then the key.
 use mathlib.Core.Path.{refl, ap, _∙_}
 use mathlib.Core.List.{List}
 use Prim.Native.Nat.{ℕ, _+_}
@@ -10,6 +10,34 @@ use borrow.Author.Needs.{needs}
 use Rattle.session.proofs.give.Statement.{statement}
 use Rattle.session.proofs.give.Tie as tie
 
+-- the places of the walk, each by its way to the place before it: `a-b` goes from `a` back to `b`
+abbrev unopened-start : tie.Else1 → tie.Start
+unopened-start c = c .before .before
+
+abbrev partition-unopened : tie.After-add-name → tie.Else1
+partition-unopened c = c .before .before
+
+abbrev partition-start : tie.After-add-name → tie.Start
+partition-start c = unopened-start (partition-unopened c)
+
+abbrev between-partition : tie.After-add-name-arg2 → tie.After-add-name
+between-partition c = c .before .before .before
+
+abbrev between-start : tie.After-add-name-arg2 → tie.Start
+between-start c = partition-start (between-partition c)
+
+abbrev key-between : tie.After-add-name2 → tie.After-add-name-arg2
+key-between c = c .before
+
+abbrev done-key : tie.After-slice-known3 → tie.After-add-name2
+done-key c = c .before .before
+
+abbrev done-partition : tie.After-slice-known3 → tie.After-add-name
+done-partition c = between-partition (key-between (done-key c))
+
+abbrev done-start : tie.After-slice-known3 → tie.Start
+done-start c = partition-start (done-partition c)
+
 returns : tie.Need-returns
 returns c = search needs
 
@@ -20,7 +48,9 @@ add-add-name : tie.Need-add-add-name
 add-add-name c = search needs
 
 add-name-requires-2 : tie.Need-add-name-requires-2
-add-name-requires-2 c κs = (omega (arith, c .before .before .before .add-name .kept .0, c .before .before .before .before .before .before .before .pre), wider (c .before .before .before .before .before .before .before .args .key) (c .before .before .before .before .before .before .before .pre .3))
+add-name-requires-2 c κs =
+    let s = between-start c in
+    (omega (arith, between-partition c .add-name .kept .0, s .pre), wider (s .args .key) (s .pre .3))
 
 same-length : tie.Need-same-length
 same-length c = search needs
@@ -28,8 +58,9 @@ same-length c = search needs
 returns-2 : tie.Need-returns-2
 unfolding given
 returns-2 c =
-    let a = c .before .before .before .before .before .before .before .before .before .before .args in
-    (c .before .before .before .before .before .before .before .before .if1 .left, c .before .before .add-name2 .ensures ∙ ap (λ (l : List ℕ). withName (8 + a .party) (nameOf (a .key)) l) (c .before .before .before .before .before .before .add-name .ensures), refl, refl)
+    let a = done-start c .args in
+    let gift = done-key c .add-name2 .ensures ∙ ap (λ (l : List ℕ). withName (8 + a .party) (nameOf (a .key)) l) (done-partition c .add-name .ensures) in
+    (partition-unopened (done-partition c) .if1 .left, gift, refl, refl)
 
 pub give-spec : {M : Type 1} → statement M
 give-spec =

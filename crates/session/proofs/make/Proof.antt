@@ -10,7 +10,7 @@ use mir.Syntax.{w32}
 use mir.Val.{toZ, ofZ}
 use Rattle.rules.specs.Matching.{Op, pair, reading, taking}
 use Rattle.rules.specs.Calls.{Answer, put, seek}
-use Rattle.rules.specs.Words.{exit, zeros, call}
+use Rattle.rules.specs.Words.{exit, call, Exit}
 use Rattle.search.specs.Place as place
 use Rattle.lines.specs.Read.{meantCall, fieldCount}
 use Rattle.lines.specs.declared.Call.{Call}
@@ -20,22 +20,140 @@ use borrow.Author.Needs.{needs}
 use Rattle.session.proofs.make.Statement.{statement}
 use Rattle.session.proofs.make.Tie as tie
 
+-- the places of the walk, each by its way to the place before it: `a-b` goes from `a` back to `b`; `to-a` is where the call of `a` begins
+abbrev known-start : tie.After-slice-known2 → tie.Start
+known-start c = c .before .before .before
+
+-- a put
+abbrev asked-known : tie.After-asked → tie.After-slice-known2
+asked-known c = c .before .before
+
+abbrev asked-start : tie.After-asked → tie.Start
+asked-start c = known-start (asked-known c)
+
+abbrev put-told-asked : tie.After-known-told → tie.After-asked
+put-told-asked c = c .before
+
+abbrev to-put-put-told : tie.After-put-arg2 → tie.After-known-told
+to-put-put-told c = c .before .before
+
+abbrev to-put-start : tie.After-put-arg2 → tie.Start
+to-put-start c = asked-start (put-told-asked (to-put-put-told c))
+
+abbrev put-lent : tie.After-put → tie.After-put-arg2
+put-lent c = c .before
+
+abbrev put-done-put : tie.After-slice-known3 → tie.After-put
+put-done-put c = c .before .before
+
+abbrev put-done-put-told : tie.After-slice-known3 → tie.After-known-told
+put-done-put-told c = to-put-put-told (put-lent (put-done-put c))
+
+abbrev put-done-asked : tie.After-slice-known3 → tie.After-asked
+put-done-asked c = put-told-asked (put-done-put-told c)
+
+abbrev put-done-start : tie.After-slice-known3 → tie.Start
+put-done-start c = asked-start (put-done-asked c)
+
+-- a read or take
+abbrev sought-known : tie.After-asked2 → tie.After-slice-known2
+sought-known c = c .before .before
+
+abbrev sought-start : tie.After-asked2 → tie.Start
+sought-start c = known-start (sought-known c)
+
+abbrev seek-told-sought : tie.After-known-told2 → tie.After-asked2
+seek-told-sought c = c .before
+
+abbrev fields-seek-told : tie.After-fields → tie.After-known-told2
+fields-seek-told c = c .before
+
+abbrev fields-sought : tie.After-fields → tie.After-asked2
+fields-sought c = seek-told-sought (fields-seek-told c)
+
+abbrev fields-start : tie.After-fields → tie.Start
+fields-start c = sought-start (fields-sought c)
+
+abbrev reading-fields : tie.After-enum-told → tie.After-fields
+reading-fields c = c .before .before
+
+abbrev read-reading : tie.After-read → tie.After-enum-told
+read-reading c = c .before .before .before
+
+abbrev back-read : tie.After-slice-known4 → tie.After-read
+back-read c = c .before .before
+
+abbrev read-done-back : tie.After-slice-known5 → tie.After-slice-known4
+read-done-back c = c .before .before
+
+abbrev read-done-read : tie.After-slice-known5 → tie.After-read
+read-done-read c = back-read (read-done-back c)
+
+abbrev read-done-reading : tie.After-slice-known5 → tie.After-enum-told
+read-done-reading c = read-reading (read-done-read c)
+
+abbrev read-done-fields : tie.After-slice-known5 → tie.After-fields
+read-done-fields c = reading-fields (read-done-reading c)
+
+abbrev taking-fields : tie.After-enum-told2 → tie.After-fields
+taking-fields c = c .before .before
+
+abbrev take-taking : tie.After-take → tie.After-enum-told2
+take-taking c = c .before .before .before
+
+abbrev back-take : tie.After-slice-known6 → tie.After-take
+back-take c = c .before .before
+
+abbrev take-done-back : tie.After-slice-known7 → tie.After-slice-known6
+take-done-back c = c .before .before
+
+abbrev take-done-take : tie.After-slice-known7 → tie.After-take
+take-done-take c = back-take (take-done-back c)
+
+abbrev take-done-taking : tie.After-slice-known7 → tie.After-enum-told2
+take-done-taking c = take-taking (take-done-take c)
+
+abbrev take-done-fields : tie.After-slice-known7 → tie.After-fields
+take-done-fields c = taking-fields (take-done-taking c)
+
+-- the put, by its keys; the read or take, by which it is, its key and its result words
+abbrev putOf : tie.After-asked → ℤ → ℤ → Exit
+putOf c r t =
+    let a = asked-start c .args in
+    let v = c .asked .given .0 in
+    call (a .space .now) (put (v .0) (pair (v .1 .0) r) (pair (v .1 .1 .1 .0) t) (take (v .1 .1 .1 .1 .1 .0) (a .words .now)))
+
+abbrev seekOf : tie.After-asked2 → Op → ℤ → List ℕ → Exit
+seekOf c op k r =
+    let a = sought-start c .args in
+    let v = c .asked2 .given .0 in
+    call (a .space .now) (seek op (v .1 .0) (pair (v .1 .1 .0) k) (take (v .1 .1 .1 .1 .0) (a .words .now)) r)
+
+-- the fields of a call that is known stand in the words
+words-hold : (s : tie.Start) {x : Call} → s .args .asked ≡ x → fieldCount x ≤ length (s .args .words .now)
+words-hold s e = subst (λ (x : Call). fieldCount x ≤ length (s .args .words .now)) e (s .pre .0)
+
+-- a call that is known was made
+made : (s : tie.Start) (a : Answer) (ws result : List ℕ) {x : Call} → s .args .asked ≡ x
+    → Made a ws result (call (s .args .space .now) (meantCall x (s .args .words .now)))
+    → Made a ws result (call (s .args .space .now) (meantCall (s .args .asked) (s .args .words .now)))
+made s a ws result e m = subst (λ (x : Call). Made a ws result (call (s .args .space .now) (meantCall x (s .args .words .now)))) (sym e) m
+
 -- a read or take, by what the contract of the one or the other says
-sought : (c : tie.After-fields) (op : Op) (a : Answer) (ws result : List ℕ) → place.meant (c .before .before .asked2 .given .0 .0) ≡ op
-    → exit a ws result ≡ call (c .before .before .before .before .before .before .before .args .space .now) (seek op (c .before .before .asked2 .given .0 .1 .0) (pair (c .before .before .asked2 .given .0 .1 .1 .0) (toZ w32 (ofZ w32 (c .before .before .asked2 .given .0 .1 .1 .1 .0)))) (take (c .before .before .asked2 .given .0 .1 .1 .1 .1 .0) (c .before .before .before .before .before .before .before .args .words .now)) (c .before .before .before .before .before .before .before .args .result .now))
-    → Made a ws result (call (c .before .before .before .before .before .before .before .args .space .now) (meantCall (c .before .before .before .before .before .before .before .args .asked) (c .before .before .before .before .before .before .before .args .words .now)))
+sought : (c : tie.After-fields) (op : Op) (a : Answer) (ws result : List ℕ) → place.meant (fields-sought c .asked2 .given .0 .0) ≡ op
+    → exit a ws result ≡ seekOf (fields-sought c) op (toZ w32 (ofZ w32 (fields-sought c .asked2 .given .0 .1 .1 .1 .0))) (fields-start c .args .result .now)
+    → Made a ws result (call (fields-start c .args .space .now) (meantCall (fields-start c .args .asked) (fields-start c .args .words .now)))
 sought c op a ws result o e =
-    let s = c .before .before .before .before .before .before .before .args in
-    let v = c .before .before .asked2 .given .0 in
-    let key : toZ w32 (ofZ w32 (v .1 .1 .1 .0)) ≡ v .1 .1 .1 .0 = toZ-ofZ (record { sfits = c .before .known-told2 .given .1 .1 .1 .0 .1 }) in
-    rw (c .before .before .asked2 .given .1, o)
-    (made-seek a ws result _ (e ∙ ap₂ (λ (k : ℤ) (r : List ℕ). call (s .space .now) (seek op (v .1 .0) (pair (v .1 .1 .0) k) (take (v .1 .1 .1 .1 .0) (s .words .now)) r)) key (c .before .before .before .before .before .before .before .pre .1)))
+    let k = fields-sought c .asked2 .given .0 .1 .1 .1 .0 in
+    let key : toZ w32 (ofZ w32 k) ≡ k = toZ-ofZ (record { sfits = fields-seek-told c .known-told2 .given .1 .1 .1 .0 .1 }) in
+    let m = made-seek a ws result _ (e ∙ ap₂ (seekOf (fields-sought c) op) key (fields-start c .pre .1)) in
+    made (fields-start c) a ws result (fields-sought c .asked2 .given .1) (rw o m)
 
 enum-known-asked : tie.Need-enum-known-asked
 enum-known-asked c = search needs
 
 slice-aggregate-put : tie.Need-slice-aggregate-put
-slice-aggregate-put c = sym (length-take-le _ _ (subst (λ (x : Call). fieldCount x ≤ length (c .before .before .before .before .before .before .before .before .args .words .now)) (c .before .before .before .asked .given .1) (c .before .before .before .before .before .before .before .before .pre .0)))
+slice-aggregate-put c = sym (length-take-le _ _ (words-hold (to-put-start c) (put-told-asked (to-put-put-told c) .asked .given .1)))
 
 put-requires : tie.Need-put-requires
 put-requires c κs = search needs
@@ -44,7 +162,7 @@ enum-known-asked-2 : tie.Need-enum-known-asked-2
 enum-known-asked-2 c = search needs
 
 slice-aggregate-fields : tie.Need-slice-aggregate-fields
-slice-aggregate-fields c = sym (length-take-le _ _ (subst (λ (x : Call). fieldCount x ≤ length (c .before .before .before .before .before .before .before .args .words .now)) (c .before .before .asked2 .given .1) (c .before .before .before .before .before .before .before .pre .0)))
+slice-aggregate-fields c = sym (length-take-le _ _ (words-hold (fields-start c) (fields-sought c .asked2 .given .1)))
 
 enum-told : tie.Need-enum-told
 enum-told c = search needs
@@ -63,14 +181,13 @@ same-length c = search needs
 
 returns : tie.Need-returns
 returns c =
-    let a = c .before .before .before .before .before .before .before .before .before .before .before .args in
-    let v = c .before .before .before .before .before .before .asked .given .0 in
-    let fs = take (v .1 .1 .1 .1 .1 .0) (a .words .now) in
-    let r : toZ w32 (ofZ w32 (v .1 .1 .0)) ≡ v .1 .1 .0 = toZ-ofZ (record { sfits = c .before .before .before .before .before .known-told .given .1 .1 .0 .1 }) in
-    let t : toZ w32 (ofZ w32 (v .1 .1 .1 .1 .0)) ≡ v .1 .1 .1 .1 .0 = toZ-ofZ (record { sfits = c .before .before .before .before .before .known-told .given .1 .1 .1 .1 .0 .1 }) in
-    rw (c .before .before .before .before .before .before .asked .given .1)
-    (made-put (a .space .now) (v .0) (pair (v .1 .0) (v .1 .1 .0)) (pair (v .1 .1 .1 .0) (v .1 .1 .1 .1 .0)) fs _ _ _
-    (c .before .before .put .ensures ∙ ap₂ (λ (r t : ℤ). call (a .space .now) (put (v .0) (pair (v .1 .0) r) (pair (v .1 .1 .1 .0) t) fs)) r t))
+    let a = put-done-start c .args in
+    let v = put-done-asked c .asked .given .0 in
+    let r : toZ w32 (ofZ w32 (v .1 .1 .0)) ≡ v .1 .1 .0 = toZ-ofZ (record { sfits = put-done-put-told c .known-told .given .1 .1 .0 .1 }) in
+    let t : toZ w32 (ofZ w32 (v .1 .1 .1 .1 .0)) ≡ v .1 .1 .1 .1 .0 = toZ-ofZ (record { sfits = put-done-put-told c .known-told .given .1 .1 .1 .1 .0 .1 }) in
+    made (put-done-start c) _ _ _ (put-done-asked c .asked .given .1)
+    (made-put (a .space .now) (v .0) (pair (v .1 .0) (v .1 .1 .0)) (pair (v .1 .1 .1 .0) (v .1 .1 .1 .1 .0)) _ _ _ _
+    (put-done-put c .put .ensures ∙ ap₂ (putOf (put-done-asked c)) r t))
 
 same-length-2 : tie.Need-same-length-2
 same-length-2 c = search needs
@@ -79,7 +196,7 @@ same-length-3 : tie.Need-same-length-3
 same-length-3 c = search needs
 
 returns-2 : tie.Need-returns-2
-returns-2 c = sought (c .before .before .before .before .before .before .before .before .before) reading _ _ _ (ap place.meant (c .before .before .before .before .before .before .before .enum-told .given .1)) (c .before .before .before .before .read .ensures)
+returns-2 c = sought (read-done-fields c) reading _ _ _ (ap place.meant (read-done-reading c .enum-told .given .1)) (read-done-read c .read .ensures)
 
 same-length-4 : tie.Need-same-length-4
 same-length-4 c = search needs
@@ -88,7 +205,7 @@ same-length-5 : tie.Need-same-length-5
 same-length-5 c = search needs
 
 returns-3 : tie.Need-returns-3
-returns-3 c = sought (c .before .before .before .before .before .before .before .before .before) taking _ _ _ (ap place.meant (c .before .before .before .before .before .before .before .enum-told2 .given .1)) (c .before .before .before .before .take .ensures)
+returns-3 c = sought (take-done-fields c) taking _ _ _ (ap place.meant (take-done-taking c .enum-told2 .given .1)) (take-done-take c .take .ensures)
 
 pub make-spec : {M : Type 1} → statement M
 make-spec =

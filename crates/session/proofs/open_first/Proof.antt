@@ -1,4 +1,4 @@
--- `open_first` meets its contract.
+-- `open_first` meets its contract: by whether the space is open already.
 use mathlib.Core.Path.{_≡_, refl, ap}
 use mathlib.Core.Bool.{true, false}
 use borrow.Author.Tests.{not-true, not-false}
@@ -7,6 +7,25 @@ use borrow.Author.Needs.{needs}
 use Rattle.session.proofs.open_first.Statement.{statement}
 use Rattle.session.proofs.open_first.Tie as tie
 
+-- the places of the walk, each by its way to the place before it: `a-b` goes from `a` back to `b`
+abbrev unopened-start : tie.Then1 → tie.Start
+unopened-start c = c .before .before .before
+
+abbrev open-unopened : tie.After-open → tie.Then1
+open-unopened c = c .before .before
+
+abbrev done-open : tie.After-slice-known2 → tie.After-open
+done-open c = c .before .before
+
+abbrev done-unopened : tie.After-slice-known2 → tie.Then1
+done-unopened c = open-unopened (done-open c)
+
+abbrev done-start : tie.After-slice-known2 → tie.Start
+done-start c = unopened-start (done-unopened c)
+
+abbrev opened-start : tie.Else1 → tie.Start
+opened-start c = c .before .before .before
+
 open-requires : tie.Need-open-requires
 open-requires c κs = search needs
 
@@ -14,10 +33,12 @@ same-length : tie.Need-same-length
 same-length c = search needs
 
 returns : tie.Need-returns
-returns c = let o : c .before .before .before .before .before .before .before .args .s .opened ≡ false = not-true _ (c .before .before .before .before .if1 .taken) in rw o (ap (λ (x : Exit). x .space) (c .before .before .«open» .ensures))
+returns c =
+    let o : done-start c .args .s .opened ≡ false = not-true _ (done-unopened c .if1 .taken) in
+    rw o (ap (λ (x : Exit). x .space) (done-open c .«open» .ensures))
 
 returns-2 : tie.Need-returns-2
-returns-2 c = let o : c .before .before .before .args .s .opened ≡ true = not-false _ (c .if1 .left) in rw o refl
+returns-2 c = let o : opened-start c .args .s .opened ≡ true = not-false _ (c .if1 .left) in rw o refl
 
 pub open-first-spec : {M : Type 1} → statement M
 open-first-spec = tie.close (tie.spec open-requires same-length returns returns-2)

@@ -1,7 +1,7 @@
--- `take_turn` meets its contract: the line that ends at the next line feed, and the output after it.
-use Prim.Native.Nat.{ℕ, _+_, _-_}
-use mathlib.Core.Path.{_≡_, refl, sym, _∙_, subst}
-use mathlib.Core.Option.{none, some}
+-- `take_turn` meets its contract: the input has ended, or the line that ends at the next line feed is stepped through and
+-- the output after it is left.
+use Prim.Native.Nat.{ℕ, _+_, _-_, _≤_}
+use mathlib.Core.Path.{_≡_, refl, sym, ap, _∙_, subst}
 use mathlib.Core.List.{List, [], append-nil}
 use native.Mathlib.Omega.{arith}
 use native.Mathlib.Numerals.{add-one}
@@ -10,7 +10,7 @@ use Rattle.text.specs.Fields.{before, beyond, parts}
 use Rattle.text.specs.Written.{Written}
 use Rattle.text.proofs.Parts.{end-low, end-high, part-is, last-part, further-parts}
 use Rattle.text.proofs.Placing.{written-none}
-use Rattle.session.specs.Transcript.{lineStep, unreadable, atEnd, transcript}
+use Rattle.session.specs.Transcript.{Phase, lineStep, unreadable, atEnd, transcript}
 use Rattle.session.specs.Steps.{phaseOf, StepIs}
 use Rattle.session.specs.declared.Step.{Step}
 use Rattle.session.proofs.Bounds.{unreadable-short}
@@ -19,51 +19,208 @@ use borrow.Author.Needs.{needs}
 use Rattle.session.proofs.take_turn.Statement.{statement}
 use Rattle.session.proofs.take_turn.Tie as tie
 
+-- the places of the walk, each by its way to the place before it: `a-b` goes from `a` back to `b`; `to-a` is where the call of `a` begins
+abbrev input-start : tie.After-shared-slice-known → tie.Start
+input-start c = c .before
+
+abbrev known-input : tie.After-slice-known3 → tie.After-shared-slice-known
+known-input c = c .before .before .before
+
+abbrev end-known : tie.After-part-end → tie.After-slice-known3
+end-known c = c .before
+
+abbrev end-start : tie.After-part-end → tie.Start
+end-start c = input-start (known-input (end-known c))
+
+-- after the last line feed
+abbrev last-end : tie.Then1 → tie.After-part-end
+last-end c = c .before
+
+abbrev last-start : tie.Then1 → tie.Start
+last-start c = end-start (last-end c)
+
+abbrev empty-last : tie.Then2 → tie.Then1
+empty-last c = c .before
+
+abbrev empty-start : tie.Then2 → tie.Start
+empty-start c = last-start (empty-last c)
+
+abbrev unended-last : tie.Else2 → tie.Then1
+unended-last c = c .before
+
+abbrev to-complaint-unended : tie.After-render-unreadable-arg → tie.Else2
+to-complaint-unended c = c .before
+
+abbrev to-complaint-start : tie.After-render-unreadable-arg → tie.Start
+to-complaint-start c = last-start (unended-last (to-complaint-unended c))
+
+abbrev complaint-lent : tie.After-render-unreadable → tie.After-render-unreadable-arg
+complaint-lent c = c .before
+
+abbrev stop-complaint : tie.After-slice-known4 → tie.After-render-unreadable
+stop-complaint c = c .before .before
+
+abbrev stop-unended : tie.After-slice-known4 → tie.Else2
+stop-unended c = to-complaint-unended (complaint-lent (stop-complaint c))
+
+abbrev stop-last : tie.After-slice-known4 → tie.Then1
+stop-last c = unended-last (stop-unended c)
+
+abbrev stop-start : tie.After-slice-known4 → tie.Start
+stop-start c = last-start (stop-last c)
+
+-- a line
+abbrev whole-end : tie.Else1 → tie.After-part-end
+whole-end c = c .before
+
+abbrev whole-start : tie.Else1 → tie.Start
+whole-start c = end-start (whole-end c)
+
+abbrev cut-whole : tie.After-step-line-arg2 → tie.Else1
+cut-whole c = c .before .before
+
+abbrev step-cut : tie.After-step-line → tie.After-step-line-arg2
+step-cut c = c .before .before .before
+
+abbrev step-whole : tie.After-step-line → tie.Else1
+step-whole c = cut-whole (step-cut c)
+
+abbrev step-end : tie.After-step-line → tie.After-part-end
+step-end c = whole-end (step-whole c)
+
+abbrev step-start : tie.After-step-line → tie.Start
+step-start c = end-start (step-end c)
+
+abbrev roster-step : tie.After-slice-known5 → tie.After-step-line
+roster-step c = c .before .before
+
+abbrev space-roster : tie.After-slice-known6 → tie.After-slice-known5
+space-roster c = c .before .before
+
+abbrev stepped-space : tie.After-slice-known7 → tie.After-slice-known6
+stepped-space c = c .before .before
+
+abbrev stepped-step : tie.After-slice-known7 → tie.After-step-line
+stepped-step c = roster-step (space-roster (stepped-space c))
+
+-- it goes on
+abbrev next-stepped : tie.After-next → tie.After-slice-known7
+next-stepped c = c .before .before
+
+abbrev go-next : tie.After-known-told → tie.After-next
+go-next c = c .before
+
+abbrev go-step : tie.After-known-told → tie.After-step-line
+go-step c = stepped-step (next-stepped (go-next c))
+
+abbrev go-whole : tie.After-known-told → tie.Else1
+go-whole c = step-whole (go-step c)
+
+abbrev go-end : tie.After-known-told → tie.After-part-end
+go-end c = whole-end (go-whole c)
+
+abbrev go-start : tie.After-known-told → tie.Start
+go-start c = end-start (go-end c)
+
+-- it is unreadable
+abbrev unread-stepped : tie.After-enum-told → tie.After-slice-known7
+unread-stepped c = c .before .before
+
+abbrev to-objection-unread : tie.After-render-unreadable-arg2 → tie.After-enum-told
+to-objection-unread c = c .before
+
+abbrev to-objection-start : tie.After-render-unreadable-arg2 → tie.Start
+to-objection-start c = step-start (stepped-step (unread-stepped (to-objection-unread c)))
+
+abbrev objection-lent : tie.After-render-unreadable2 → tie.After-render-unreadable-arg2
+objection-lent c = c .before
+
+abbrev quit-objection : tie.After-slice-known8 → tie.After-render-unreadable2
+quit-objection c = c .before .before
+
+abbrev quit-unread : tie.After-slice-known8 → tie.After-enum-told
+quit-unread c = to-objection-unread (objection-lent (quit-objection c))
+
+abbrev quit-step : tie.After-slice-known8 → tie.After-step-line
+quit-step c = stepped-step (unread-stepped (quit-unread c))
+
+abbrev quit-whole : tie.After-slice-known8 → tie.Else1
+quit-whole c = step-whole (quit-step c)
+
+abbrev quit-end : tie.After-slice-known8 → tie.After-part-end
+quit-end c = whole-end (quit-whole c)
+
+abbrev quit-start : tie.After-slice-known8 → tie.Start
+quit-start c = end-start (quit-end c)
+
+-- where the turn begins: the phase, the line's number, and the input from the line on
+abbrev phase-at : tie.Start → Phase
+phase-at s = phaseOf (s .args .s) (s .args .roster .now) (s .args .space .now)
+
+abbrev number-at : tie.Start → ℕ
+number-at s = s .args .from .number
+
+abbrev rest-at : tie.Start → List ℕ
+rest-at s = drop (s .args .from .at) (s .args .input .now)
+
+-- the line as the code cuts it out, and the input after it
+abbrev line-at : tie.After-part-end → List ℕ
+line-at c = take (c .part-end .result - end-start c .args .from .at) (rest-at (end-start c))
+
+abbrev after-at : tie.After-part-end → List ℕ
+after-at c = drop (c .part-end .result + 1) (end-start c .args .input .now)
+
 -- what the step's contract says, of its answer
 step-says : (c : tie.After-step-line) → Step → Type 0
 step-says c r =
-    let a = c .before .before .before .before .before .before .before .before .before .before .before .args in
-    let line = take (c .before .before .before .before .before .before .part-end .result - a .from .at) (drop (a .from .at) (a .input .now)) in
-    StepIs r (a .s) line (a .roster .now) (c .step-line .last .1 .1 .0) (a .space .now) (c .step-line .last .1 .1 .1 .0) (a .out .now) (c .step-line .last .1 .1 .1 .1 .0)
+    let a = step-start c .args in
+    let o = c .step-line .last .1 .1 in
+    StepIs r (a .s) (line-at (step-end c)) (a .roster .now) (o .0) (a .space .now) (o .1 .0) (a .out .now) (o .1 .1 .0)
+
+end-is-high : (c : tie.After-part-end) → c .part-end .result ≤ length (end-start c .args .input .now)
+end-is-high c = end-high 10 _ (end-start c .args .from .at) _ (end-start c .pre .0) (c .part-end .ensures)
 
 last-line : (c : tie.Then1)
-    → transcript (phaseOf (c .before .before .before .before .before .before .args .s) (c .before .before .before .before .before .before .args .roster .now) (c .before .before .before .before .before .before .args .space .now)) (c .before .before .before .before .before .before .args .from .number) (parts 10 (drop (c .before .before .before .before .before .before .args .from .at) (c .before .before .before .before .before .before .args .input .now)))
-    ≡ atEnd (c .before .before .before .before .before .before .args .from .number) (before 10 (drop (c .before .before .before .before .before .before .args .from .at) (c .before .before .before .before .before .before .args .input .now)))
+    → transcript (phase-at (last-start c)) (number-at (last-start c)) (parts 10 (rest-at (last-start c)))
+    ≡ atEnd (number-at (last-start c)) (before 10 (rest-at (last-start c)))
 last-line c =
-    let a = c .before .before .before .before .before .before .args in
-    at-end (phaseOf (a .s) (a .roster .now) (a .space .now)) (a .from .number) (drop (a .from .at) (a .input .now))
-    (last-part 10 (a .input .now) (a .from .at) _ (c .before .before .before .before .before .before .pre .0) (c .before .part-end .ensures) (c .if1 .taken))
+    let s = last-start c in
+    at-end (phase-at s) (number-at s) (rest-at s) (last-part 10 _ (s .args .from .at) _ (s .pre .0) (last-end c .part-end .ensures) (c .if1 .taken))
 
-line-is : (c : tie.Else1)
-    → take (c .before .part-end .result - c .before .before .before .before .before .before .args .from .at) (drop (c .before .before .before .before .before .before .args .from .at) (c .before .before .before .before .before .before .args .input .now)) ≡ before 10 (drop (c .before .before .before .before .before .before .args .from .at) (c .before .before .before .before .before .before .args .input .now))
-line-is c = part-is 10 _ _ _ (c .before .before .before .before .before .before .pre .0) (c .before .part-end .ensures)
+line-is : (c : tie.Else1) → line-at (whole-end c) ≡ before 10 (rest-at (whole-start c))
+line-is c = part-is 10 _ _ _ (whole-start c .pre .0) (whole-end c .part-end .ensures)
 
-further : (c : tie.Else1)
-    → beyond 10 (drop (c .before .before .before .before .before .before .args .from .at) (c .before .before .before .before .before .before .args .input .now)) ≡ parts 10 (drop (c .before .part-end .result + 1) (c .before .before .before .before .before .before .args .input .now))
-further c = further-parts 10 _ _ _ (c .before .before .before .before .before .before .pre .0) (c .before .part-end .ensures) (c .if1 .left)
+line-steps : (c : tie.Else1)
+    → lineStep (phase-at (whole-start c)) (before 10 (rest-at (whole-start c))) ≡ lineStep (phase-at (whole-start c)) (line-at (whole-end c))
+line-steps c = ap (lineStep (phase-at (whole-start c))) (sym (line-is c))
+
+further : (c : tie.Else1) → beyond 10 (rest-at (whole-start c)) ≡ parts 10 (after-at (whole-end c))
+further c = further-parts 10 _ _ _ (whole-start c .pre .0) (whole-end c .part-end .ensures) (c .if1 .left)
 
 part-end-requires : tie.Need-part-end-requires
 part-end-requires c κs = search needs
 
 returns : tie.Need-returns
 returns c =
-    let a = c .before .before .before .before .before .before .before .args in
-    let t = drop (a .from .at) (a .input .now) in
-    let none : length (before 10 t) ≡ 0 = omega (arith, c .before .before .part-end .ensures, c .if2 .taken) in
-    (record { text = []; adds = last-line (c .before) ∙ ended (a .from .number) (before 10 t) none; written = written-none _ 0 }, (tt, (refl, refl)))
+    let s = empty-start c in
+    let none : length (before 10 (rest-at s)) ≡ 0 = omega (arith, last-end (empty-last c) .part-end .ensures, c .if2 .taken) in
+    (record { text = []; adds = last-line (empty-last c) ∙ ended (number-at s) (before 10 (rest-at s)) none; written = written-none _ 0 }, (tt, (refl, refl)))
 
 render-unreadable-requires : tie.Need-render-unreadable-requires
-render-unreadable-requires c κs = omega (arith, unreadable-short (c .before .before .before .before .before .before .before .before .args .from .number) (omega (arith, c .before .before .before .before .before .before .before .before .pre .1)), c .before .before .before .before .before .before .before .before .pre .4)
+render-unreadable-requires c κs =
+    let s = to-complaint-start c in
+    omega (arith, unreadable-short (number-at s) (omega (arith, s .pre .1)), s .pre .4)
 
 same-length : tie.Need-same-length
 same-length c = search needs
 
 returns-2 : tie.Need-returns-2
 returns-2 c =
-    let a = c .before .before .before .before .before .before .before .before .before .before .before .args in
-    let t = drop (a .from .at) (a .input .now) in
-    let some : (length (before 10 t) ≡ 0 → ⊥) = λ z. c .before .before .before .before .if2 .left (omega (arith, c .before .before .before .before .before .before .part-end .ensures)) in
-    (record { text = unreadable (a .from .number); adds = last-line (c .before .before .before .before .before) ∙ unended (a .from .number) (before 10 t) some ∙ sym (append-nil _); written = c .before .before .render-unreadable .ensures }, (tt, (refl, refl)))
+    let n = number-at (stop-start c) in
+    let l = before 10 (rest-at (stop-start c)) in
+    let some : (length l ≡ 0 → ⊥) = λ z. stop-unended c .if2 .left (omega (arith, last-end (stop-last c) .part-end .ensures)) in
+    let adds = last-line (stop-last c) ∙ unended n l some ∙ sym (append-nil _) in
+    (record { text = unreadable n; adds = adds; written = stop-complaint c .render-unreadable .ensures }, (tt, (refl, refl)))
 
 sub-step-line : tie.Need-sub-step-line
 sub-step-line c = search needs
@@ -72,7 +229,7 @@ part-step-line-start : tie.Need-part-step-line-start
 part-step-line-start c = search needs
 
 part-step-line-end : tie.Need-part-step-line-end
-part-step-line-end c = let l = end-high 10 (c .before .before .before .before .before .before .args .input .now) (c .before .before .before .before .before .before .args .from .at) _ (c .before .before .before .before .before .before .pre .0) (c .before .part-end .ensures) in search needs
+part-step-line-end c = let l = end-is-high (whole-end c) in search needs
 
 step-line-requires : tie.Need-step-line-requires
 step-line-requires c κs = search needs
@@ -84,7 +241,10 @@ enum-told : tie.Need-enum-told
 enum-told c = search needs
 
 render-unreadable-requires-2 : tie.Need-render-unreadable-requires-2
-render-unreadable-requires-2 c κs = omega (arith, unreadable-short (c .before .before .before .before .before .before .before .before .before .before .before .before .before .before .before .before .before .before .before .before .args .from .number) (omega (arith, c .before .before .before .before .before .before .before .before .before .before .before .before .before .before .before .before .before .before .before .before .pre .1)), c .before .before .before .before .before .before .before .before .before .step-line .kept .1 .1 .1 .1 .0, c .before .before .before .before .before .before .before .before .before .before .before .before .before .before .before .before .before .before .before .before .pre .4)
+render-unreadable-requires-2 c κs =
+    let s = to-objection-start c in
+    let kept = stepped-step (unread-stepped (to-objection-unread c)) .step-line .kept .1 .1 .1 .1 .0 in
+    omega (arith, unreadable-short (number-at s) (omega (arith, s .pre .1)), kept, s .pre .4)
 
 same-length-2 : tie.Need-same-length-2
 same-length-2 c = search needs
@@ -98,18 +258,19 @@ same-length-4 c = search needs
 returns-3 : tie.Need-returns-3
 unfolding step-says
 returns-3 c =
-    let s = c .before .before .before .before .before .before .before .before .before .before .before .before .before .before .before .before .before .before .before .before .before .before .before in
-    let a = s .args in
-    let t = drop (a .from .at) (a .input .now) in
-    let h = subst (step-says (c .before .before .before .before .before .before .before .before .before .before .before .before)) (c .before .before .before .before .enum-told .given .1) (c .before .before .before .before .before .before .before .before .before .before .before .before .step-line .ensures) in
-    let stepped : lineStep (phaseOf (a .s) (a .roster .now) (a .space .now)) (before 10 t) ≡ none = rw (line-is (c .before .before .before .before .before .before .before .before .before .before .before .before .before .before .before .before .before)) at (h .0) in
-    (record { text = unreadable (a .from .number); adds = unreadable-line _ _ t (drop (c .before .before .before .before .before .before .before .before .before .before .before .before .before .before .before .before .before .before .part-end .result + 1) (a .input .now)) (further (c .before .before .before .before .before .before .before .before .before .before .before .before .before .before .before .before .before)) stepped ∙ sym (append-nil _); written = subst (λ (o : List ℕ). Written o 0 (unreadable (a .from .number)) (c .before .before .render-unreadable2 .last .1 .0) (c .before .before .render-unreadable2 .result)) (h .3) (c .before .before .render-unreadable2 .ensures) }, (tt, (h .1, h .2)))
+    let s = quit-start c in
+    let n = number-at s in
+    let h = subst (step-says (quit-step c)) (quit-unread c .enum-told .given .1) (quit-step c .step-line .ensures) in
+    let adds = unreadable-line _ n (rest-at s) (after-at (quit-end c)) (further (quit-whole c)) (line-steps (quit-whole c) ∙ h .0) ∙ sym (append-nil _) in
+    let r = quit-objection c .render-unreadable2 in
+    let written = subst (λ (o : List ℕ). Written o 0 (unreadable n) (r .last .1 .0) (r .result)) (h .3) (r .ensures) in
+    (record { text = unreadable n; adds = adds; written = written }, (tt, (h .1, h .2)))
 
 add-t13 : tie.Need-add-t13
-add-t13 c = let l = end-high 10 (c .before .before .before .before .before .before .before .before .before .before .before .before .before .before .before .before .before .before .before .before .args .input .now) (c .before .before .before .before .before .before .before .before .before .before .before .before .before .before .before .before .before .before .before .before .args .from .at) _ (c .before .before .before .before .before .before .before .before .before .before .before .before .before .before .before .before .before .before .before .before .pre .0) (c .before .before .before .before .before .before .before .before .before .before .before .before .before .before .before .part-end .ensures) in omega (arith, c .before .before .before .before .before .before .before .before .before .before .before .before .before .before .if1 .left)
+add-t13 c = let l = end-is-high (go-end c) in omega (arith, go-whole c .if1 .left)
 
 add-t32 : tie.Need-add-t32
-add-t32 c = omega (arith, c .before .before .before .before .before .before .before .before .before .before .before .before .before .before .before .before .before .before .before .before .pre .1)
+add-t32 c = omega (arith, go-start c .pre .1)
 
 same-length-5 : tie.Need-same-length-5
 same-length-5 c = search needs
@@ -123,14 +284,14 @@ same-length-7 c = search needs
 returns-4 : tie.Need-returns-4
 unfolding step-says
 returns-4 c =
-    let s = c .before .before .before .before .before .before .before .before .before .before .before .before .before .before .before .before .before .before .before .before in
-    let a = s .args in
-    let t = drop (a .from .at) (a .input .now) in
-    let e = c .before .before .before .before .before .before .before .before .before .before .before .before .before .before .before .part-end .ensures in
-    let g = subst (step-says (c .before .before .before .before .before .before .before .before .before)) (c .before .next .given .1) (c .before .before .before .before .before .before .before .before .before .step-line .ensures) in
-    let l = end-high 10 (a .input .now) (a .from .at) _ (s .pre .0) e in
-    let low = end-low 10 (a .input .now) (a .from .at) _ (s .pre .0) e in
-    (record { text = g .text; adds = line-adds _ _ t (drop (c .before .before .before .before .before .before .before .before .before .before .before .before .before .before .before .part-end .result + 1) (a .input .now)) _ _ (further (c .before .before .before .before .before .before .before .before .before .before .before .before .before .before)) (rw (line-is (c .before .before .before .before .before .before .before .before .before .before .before .before .before .before)) at (g .stepped)); written = g .written }, ((omega arith, omega (arith, c .before .before .before .before .before .before .before .before .before .before .before .before .before .before .if1 .left), add-one _, g .ready, g .calls), g .kept))
+    let s = go-start c in
+    let g = subst (step-says (go-step c)) (go-next c .next .given .1) (go-step c .step-line .ensures) in
+    let high = end-is-high (go-end c) in
+    let low = end-low 10 (s .args .input .now) (s .args .from .at) _ (s .pre .0) (go-end c .part-end .ensures) in
+    let adds = line-adds _ _ (rest-at s) (after-at (go-end c)) _ _ (further (go-whole c)) (line-steps (go-whole c) ∙ g .stepped) in (
+      record { text = g .text; adds = adds; written = g .written },
+      ((omega arith, omega (arith, go-whole c .if1 .left), add-one _, g .ready, g .calls), g .kept),
+    )
 
 pub take-turn-spec : {M : Type 1} → statement M
 take-turn-spec =

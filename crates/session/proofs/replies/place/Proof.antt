@@ -1,4 +1,4 @@
--- `place` meets its contract.
+-- `place` meets its contract: at byte i the first i bytes are written.
 use Prim.Native.Nat.{_+_, _-_, _≤_}
 use mathlib.Core.Path.{_≡_}
 use native.Mathlib.Omega.{arith}
@@ -14,6 +14,22 @@ Inv-loop bytes out₀ at i₀ out i = (i ≤ length bytes) × (length out ≡ le
 
 abbrev μ-loop : tie.MeasureT-loop
 μ-loop bytes out₀ at i₀ out i = length bytes - i
+
+-- the places of the walk, each by its way to the place before it: `a-b` goes from `a` back to `b`
+abbrev loop-start : tie.At-loop Inv-loop μ-loop → tie.Start Inv-loop μ-loop
+loop-start c = c .before
+
+abbrev turn-loop : tie.After-shared-slice-known Inv-loop μ-loop → tie.At-loop Inv-loop μ-loop
+turn-loop c = c .before .before
+
+abbrev turn-start : tie.After-shared-slice-known Inv-loop μ-loop → tie.Start Inv-loop μ-loop
+turn-start c = loop-start (turn-loop c)
+
+abbrev done-loop : tie.After-loop Inv-loop μ-loop → tie.At-loop Inv-loop μ-loop
+done-loop c = c .before
+
+abbrev done-start : tie.After-loop Inv-loop μ-loop → tie.Start Inv-loop μ-loop
+done-start c = loop-start (done-loop c)
 
 loop-holds : tie.Need-loop-holds Inv-loop μ-loop
 loop-holds c = (search needs, search needs, place-none _ _)
@@ -35,8 +51,10 @@ loop-less c = search needs
 
 loop-again : tie.Need-loop-again Inv-loop μ-loop
 loop-again c =
-    let a = c .before .before .before .args in
-    (search needs, simp length-set (search needs), place-more (a .out .now) (a .at) (a .bytes .now) (c .before .before .before .pre) (c .before .before .loop .out) (c .before .before .loop .i) (c .before .before .loop .inv .2) (search needs) (search needs))
+    let a = turn-start c .args in
+    let l = turn-loop c .loop in
+    let more = place-more (a .out .now) (a .at) (a .bytes .now) (turn-start c .pre) (l .out) (l .i) (l .inv .2) (search needs) (search needs) in
+    (search needs, simp length-set (search needs), more)
 
 add-result : tie.Need-add-result Inv-loop μ-loop
 add-result c = search needs
@@ -46,8 +64,9 @@ same-length c = search needs
 
 returns : tie.Need-returns Inv-loop μ-loop
 returns c =
-    let a = c .before .before .args in
-    place-all (a .out .now) (a .at) (a .bytes .now) (c .before .before .pre) (c .before .loop .out) (c .before .loop .i) (c .before .loop .inv .2) (omega arith)
+    let a = done-start c .args in
+    let l = done-loop c .loop in
+    place-all (a .out .now) (a .at) (a .bytes .now) (done-start c .pre) (l .out) (l .i) (l .inv .2) (omega arith)
 
 pub place-spec : {M : Type 1} → statement M
 place-spec =

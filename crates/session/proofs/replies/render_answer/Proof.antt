@@ -1,7 +1,7 @@
--- `render_answer` meets its contract.
-use Prim.Native.Nat.{_+_, _≤_}
-use mathlib.Core.Path.{sym, subst}
-use mathlib.Core.List.{[], _∷_, _++_}
+-- `render_answer` meets its contract: by the answer, whose text is placed whole, or `no` and then the refusal's number.
+use Prim.Native.Nat.{_+_, _≤_, ℕ}
+use mathlib.Core.Path.{sym, subst, _≡_}
+use mathlib.Core.List.{[], _∷_, _++_, List}
 use lib.ListN.{length}
 use Rattle.space.specs.Answers.{meant}
 use Rattle.space.specs.declared.Answer.{Answer}
@@ -13,10 +13,138 @@ use borrow.Author.Needs.{needs}
 use Rattle.session.proofs.replies.render_answer.Statement.{statement}
 use Rattle.session.proofs.replies.render_answer.Tie as tie
 
-refused-room : (c : tie.After-known-told)
-    → c .before .before .before .before .args .at + length ((110 ∷ 111 ∷ []) ++ decimal (c .before .answer .given .0 .0)) ≤ length (c .before .before .before .before .args .out .now)
+-- the places of the walk, each by its way to the place before it: `a-b` goes from `a` back to `b`; `to-a` is where the call of `a` begins
+-- done
+abbrev is-done-start : tie.After-enum-told → tie.Start
+is-done-start c = c .before .before .before
+
+abbrev to-done-is-done : tie.After-place-arg2 → tie.After-enum-told
+to-done-is-done c = c .before .before
+
+abbrev to-done-start : tie.After-place-arg2 → tie.Start
+to-done-start c = is-done-start (to-done-is-done c)
+
+abbrev done-lent : tie.After-place → tie.After-place-arg2
+done-lent c = c .before
+
+abbrev back-done : tie.After-slice-known2 → tie.After-place
+back-done c = c .before .before
+
+abbrev done-back-is-done : tie.After-slice-known2 → tie.After-enum-told
+done-back-is-done c = to-done-is-done (done-lent (back-done c))
+
+abbrev done-back-start : tie.After-slice-known2 → tie.Start
+done-back-start c = is-done-start (done-back-is-done c)
+
+-- found
+abbrev is-found-start : tie.After-enum-told2 → tie.Start
+is-found-start c = c .before .before .before
+
+abbrev to-found-is-found : tie.After-place-arg4 → tie.After-enum-told2
+to-found-is-found c = c .before .before
+
+abbrev to-found-start : tie.After-place-arg4 → tie.Start
+to-found-start c = is-found-start (to-found-is-found c)
+
+abbrev found-lent : tie.After-place2 → tie.After-place-arg4
+found-lent c = c .before
+
+abbrev back-found : tie.After-slice-known3 → tie.After-place2
+back-found c = c .before .before
+
+abbrev found-back-is-found : tie.After-slice-known3 → tie.After-enum-told2
+found-back-is-found c = to-found-is-found (found-lent (back-found c))
+
+abbrev found-back-start : tie.After-slice-known3 → tie.Start
+found-back-start c = is-found-start (found-back-is-found c)
+
+-- none
+abbrev is-none-start : tie.After-enum-told3 → tie.Start
+is-none-start c = c .before .before .before
+
+abbrev to-none-is-none : tie.After-place-arg6 → tie.After-enum-told3
+to-none-is-none c = c .before .before
+
+abbrev to-none-start : tie.After-place-arg6 → tie.Start
+to-none-start c = is-none-start (to-none-is-none c)
+
+abbrev none-lent : tie.After-place3 → tie.After-place-arg6
+none-lent c = c .before
+
+abbrev back-none : tie.After-slice-known4 → tie.After-place3
+back-none c = c .before .before
+
+abbrev none-back-is-none : tie.After-slice-known4 → tie.After-enum-told3
+none-back-is-none c = to-none-is-none (none-lent (back-none c))
+
+abbrev none-back-start : tie.After-slice-known4 → tie.Start
+none-back-start c = is-none-start (none-back-is-none c)
+
+-- a refusal
+abbrev refused-start : tie.After-answer → tie.Start
+refused-start c = c .before .before .before
+
+abbrev told-refused : tie.After-known-told → tie.After-answer
+told-refused c = c .before
+
+abbrev told-start : tie.After-known-told → tie.Start
+told-start c = refused-start (told-refused c)
+
+abbrev to-no-told : tie.After-place-arg8 → tie.After-known-told
+to-no-told c = c .before .before
+
+abbrev to-no-start : tie.After-place-arg8 → tie.Start
+to-no-start c = told-start (to-no-told c)
+
+abbrev no-lent : tie.After-place4 → tie.After-place-arg8
+no-lent c = c .before
+
+abbrev to-number-no : tie.After-render-decimal-arg → tie.After-place4
+to-number-no c = c .before .before .before
+
+abbrev to-number-told : tie.After-render-decimal-arg → tie.After-known-told
+to-number-told c = to-no-told (no-lent (to-number-no c))
+
+abbrev to-number-start : tie.After-render-decimal-arg → tie.Start
+to-number-start c = told-start (to-number-told c)
+
+abbrev number-lent : tie.After-render-decimal → tie.After-render-decimal-arg
+number-lent c = c .before
+
+abbrev back-number : tie.After-slice-known6 → tie.After-render-decimal
+back-number c = c .before .before
+
+abbrev number-back-no : tie.After-slice-known6 → tie.After-place4
+number-back-no c = to-number-no (number-lent (back-number c))
+
+abbrev number-back-told : tie.After-slice-known6 → tie.After-known-told
+number-back-told c = to-no-told (no-lent (number-back-no c))
+
+abbrev number-back-refused : tie.After-slice-known6 → tie.After-answer
+number-back-refused c = told-refused (number-back-told c)
+
+abbrev number-back-start : tie.After-slice-known6 → tie.Start
+number-back-start c = refused-start (number-back-refused c)
+
+-- the room for an answer's text, and that it is written, where the answer is known
+module _ (s : tie.Start) {a : Answer} (e : s .args .answer ≡ a) where
+  answer-room : s .args .at + length (answerText (meant a)) ≤ length (s .args .out .now)
+  answer-room = subst (λ (b : Answer). s .args .at + length (answerText (meant b)) ≤ length (s .args .out .now)) e (s .pre)
+
+  answered : {after : List ℕ} {end : ℕ} → Written (s .args .out .now) (s .args .at) (answerText (meant a)) after end
+      → Written (s .args .out .now) (s .args .at) (answerText (meant (s .args .answer))) after end
+  answered {after} {end} w = subst (λ (b : Answer). Written (s .args .out .now) (s .args .at) (answerText (meant b)) after end) (sym e) w
+
+-- "no"
+abbrev noText : List ℕ
+noText = 110 ∷ 111 ∷ []
+
+abbrev refusal : tie.After-known-told → ℕ
+refusal c = told-refused c .answer .given .0 .0
+
+refused-room : (c : tie.After-known-told) → told-start c .args .at + length (noText ++ decimal (refusal c)) ≤ length (told-start c .args .out .now)
 unfolding answerText
-refused-room c = subst (λ (a : Answer). c .before .before .before .before .args .at + length (answerText (meant a)) ≤ length (c .before .before .before .before .args .out .now)) (c .before .answer .given .1) (c .before .before .before .before .pre)
+refused-room c = answer-room (told-start c) (told-refused c .answer .given .1)
 
 enum-told : tie.Need-enum-told
 enum-told c = search needs
@@ -26,7 +154,7 @@ slice-aggregate-place c = search needs
 
 place-requires : tie.Need-place-requires
 unfolding answerText
-place-requires c κs = subst (λ (a : Answer). c .before .before .before .before .before .args .at + length (answerText (meant a)) ≤ length (c .before .before .before .before .before .args .out .now)) (c .before .before .enum-told .given .1) (c .before .before .before .before .before .pre)
+place-requires c κs = answer-room (to-done-start c) (to-done-is-done c .enum-told .given .1)
 
 enum-told-2 : tie.Need-enum-told-2
 enum-told-2 c = search needs
@@ -36,7 +164,7 @@ slice-aggregate-place-2 c = search needs
 
 place-requires-2 : tie.Need-place-requires-2
 unfolding answerText
-place-requires-2 c κs = subst (λ (a : Answer). c .before .before .before .before .before .args .at + length (answerText (meant a)) ≤ length (c .before .before .before .before .before .args .out .now)) (c .before .before .enum-told2 .given .1) (c .before .before .before .before .before .pre)
+place-requires-2 c κs = answer-room (to-found-start c) (to-found-is-found c .enum-told2 .given .1)
 
 enum-told-3 : tie.Need-enum-told-3
 enum-told-3 c = search needs
@@ -46,7 +174,7 @@ slice-aggregate-place-3 c = search needs
 
 place-requires-3 : tie.Need-place-requires-3
 unfolding answerText
-place-requires-3 c κs = subst (λ (a : Answer). c .before .before .before .before .before .args .at + length (answerText (meant a)) ≤ length (c .before .before .before .before .before .args .out .now)) (c .before .before .enum-told3 .given .1) (c .before .before .before .before .before .pre)
+place-requires-3 c κs = answer-room (to-none-start c) (to-none-is-none c .enum-told3 .given .1)
 
 enum-known-answer : tie.Need-enum-known-answer
 enum-known-answer c = search needs
@@ -55,34 +183,39 @@ slice-aggregate-place-4 : tie.Need-slice-aggregate-place-4
 slice-aggregate-place-4 c = search needs
 
 place-requires-4 : tie.Need-place-requires-4
-place-requires-4 c κs = left-room (c .before .before .before .before .before .before .args .out .now) (c .before .before .before .before .before .before .args .at) (110 ∷ 111 ∷ []) (decimal (c .before .before .before .answer .given .0 .0)) (refused-room (c .before .before))
+place-requires-4 c κs =
+    let a = to-no-start c .args in
+    left-room (a .out .now) (a .at) noText (decimal (refusal (to-no-told c))) (refused-room (to-no-told c))
 
 cast-render-decimal : tie.Need-cast-render-decimal
 cast-render-decimal c = search needs
 
 render-decimal-requires : tie.Need-render-decimal-requires
-render-decimal-requires c κs = right-room (c .before .before .before .before .before .before .before .before .before .before .args .out .now) (c .before .before .before .before .before .before .before .before .before .before .args .at) (110 ∷ 111 ∷ []) (decimal (c .before .before .before .before .before .before .before .answer .given .0 .0)) (refused-room (c .before .before .before .before .before .before)) _ _ (c .before .before .before .place4 .ensures)
+render-decimal-requires c κs =
+    let a = to-number-start c .args in
+    let t = to-number-told c in
+    right-room (a .out .now) (a .at) noText (decimal (refusal t)) (refused-room t) _ _ (to-number-no c .place4 .ensures)
 
 same-length : tie.Need-same-length
 same-length c = search needs
 
 returns : tie.Need-returns
 unfolding answerText
-returns c = subst (λ (a : Answer). Written (c .before .before .before .before .before .before .before .before .args .out .now) (c .before .before .before .before .before .before .before .before .args .at) (answerText (meant a)) (c .before .before .place .last .1 .0) (c .before .before .place .result)) (sym (c .before .before .before .before .before .enum-told .given .1)) (c .before .before .place .ensures)
+returns c = answered (done-back-start c) (done-back-is-done c .enum-told .given .1) (back-done c .place .ensures)
 
 same-length-2 : tie.Need-same-length-2
 same-length-2 c = search needs
 
 returns-2 : tie.Need-returns-2
 unfolding answerText
-returns-2 c = subst (λ (a : Answer). Written (c .before .before .before .before .before .before .before .before .args .out .now) (c .before .before .before .before .before .before .before .before .args .at) (answerText (meant a)) (c .before .before .place2 .last .1 .0) (c .before .before .place2 .result)) (sym (c .before .before .before .before .before .enum-told2 .given .1)) (c .before .before .place2 .ensures)
+returns-2 c = answered (found-back-start c) (found-back-is-found c .enum-told2 .given .1) (back-found c .place2 .ensures)
 
 same-length-3 : tie.Need-same-length-3
 same-length-3 c = search needs
 
 returns-3 : tie.Need-returns-3
 unfolding answerText
-returns-3 c = subst (λ (a : Answer). Written (c .before .before .before .before .before .before .before .before .args .out .now) (c .before .before .before .before .before .before .before .before .args .at) (answerText (meant a)) (c .before .before .place3 .last .1 .0) (c .before .before .place3 .result)) (sym (c .before .before .before .before .before .enum-told3 .given .1)) (c .before .before .place3 .ensures)
+returns-3 c = answered (none-back-start c) (none-back-is-none c .enum-told3 .given .1) (back-none c .place3 .ensures)
 
 same-length-4 : tie.Need-same-length-4
 same-length-4 c = search needs
@@ -90,10 +223,11 @@ same-length-4 c = search needs
 returns-4 : tie.Need-returns-4
 unfolding answerText
 returns-4 c =
-    let s = c .before .before .before .before .before .before .before .before .before .before .before .before .before in
-    let number = c .before .before .before .before .before .before .before .before .before .before .answer .given .0 .0 in
-    subst (λ (a : Answer). Written (s .args .out .now) (s .args .at) (answerText (meant a)) (c .before .before .render-decimal .last .1 .0) (c .before .before .render-decimal .result)) (sym (c .before .before .before .before .before .before .before .before .before .before .answer .given .1))
-    (written-both (s .args .out .now) (s .args .at) (110 ∷ 111 ∷ []) (decimal number) (refused-room (c .before .before .before .before .before .before .before .before .before)) _ _ _ _ (c .before .before .before .before .before .before .place4 .ensures) (c .before .before .render-decimal .ensures))
+    let a = number-back-start c .args in
+    let t = number-back-told c in
+    let n = back-number c .render-decimal in
+    let both = written-both (a .out .now) (a .at) noText (decimal (refusal t)) (refused-room t) _ _ _ _ (number-back-no c .place4 .ensures) (n .ensures) in
+    answered (number-back-start c) (told-refused t .answer .given .1) both
 
 pub render-answer-spec : {M : Type 1} → statement M
 render-answer-spec =
