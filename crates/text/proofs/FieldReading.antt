@@ -67,7 +67,9 @@ module _ (t : List ℕ) (h : length t ≡ 0 → ⊥) where
 
   pub other-first : (getD t 0 0 ≡ 109 → ⊥) → (getD t 0 0 ≡ 112 → ⊥) → (getD t 0 0 ≡ 107 → ⊥) → (getD t 0 0 ≡ 42 → ⊥) → readField t ≡ none
   unfolding readField
-  other-first m p k w = by-first (getD t 0 0) refl ∙ rw (ne-eqb (getD t 0 0) 109 m, ne-eqb (getD t 0 0) 112 p, ne-eqb (getD t 0 0) 107 k, ne-eqb (getD t 0 0) 42 w)
+  other-first m p k w =
+      let b = getD t 0 0 in
+      by-first b refl ∙ rw (ne-eqb b 109 m, ne-eqb b 112 p, ne-eqb b 107 k, ne-eqb b 42 w)
 
 pub wildcard-alone : (t : List ℕ) → getD t 0 0 ≡ 42 → length t ≡ 1 → readField t ≡ some 12884901888
 unfolding readField

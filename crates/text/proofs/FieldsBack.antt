@@ -16,7 +16,8 @@ use Rattle.rules.specs.Names.{partition, key, keyInRange, stored}
 use Rattle.rules.specs.Fields.{Field, message, name, wildcard, bad, fieldOf, field, isData, isWildcard, templateField}
 use Rattle.rules.proofs.ListLaws.{bool, clash, and-left, and-right}
 use Rattle.text.specs.Numbers.{isDigit, decimal, decimalKey}
-use Rattle.text.specs.Fields.{ofKind, readField, keyOf, rendered, renderField, before, beyond, parts, both, readEach, upToSixteen, isDash, readFields, renderMore, renderFields}
+use Rattle.text.specs.Fields.{ofKind, readField, keyOf, rendered, renderField}
+use Rattle.text.specs.Fields.{before, beyond, parts, both, readEach, upToSixteen, isDash, readFields, renderMore, renderFields}
 use Rattle.text.specs.Claims.{RenderedReadsBack}
 use Rattle.text.proofs.Digits.{digit-low}
 use Rattle.text.proofs.NumbersBack.{all-digits, number-back, key-back}

@@ -112,8 +112,9 @@ module _ {text lent now : List ℕ} {at n : ℕ} (r : Reading text lent now at n
   pub full : 16 ≤ n → Answered text lent fields.Unreadable now
   unfolding countOf
   full h =
-      let l : length (r .done) ≡ 16 = omega (arith, r .count, r .few) in (
-        sym (answered text none (r .undashed) (ap upToSixteen (r .each) ∙ too-many (r .done) (readField (before 44 (drop at text))) (readEach (beyond 44 (drop at text))) l)),
+      let l : length (r .done) ≡ 16 = omega (arith, r .count, r .few) in
+      let many = too-many (r .done) (readField (before 44 (drop at text))) (readEach (beyond 44 (drop at text))) l in (
+        sym (answered text none (r .undashed) (ap upToSixteen (r .each) ∙ many)),
         kept (ap (take 16) (r .lead) ∙ take-at (r .done) (leading (parts 44 (drop at text))) 16 l),
       )
 
@@ -187,7 +188,8 @@ each-leads : (ps : List (List ℕ)) (ws : List ℕ) → readEach ps ≡ some ws 
 each-leads [] ws e = let q : [] ≡ ws = cc in q
 each-leads (p ∷ ps) ws e = go (readField p) (readEach ps) (each-leads ps) refl e
   where
-    go : (o : Option ℕ) (q : Option (List ℕ)) → ((vs : List ℕ) → readEach ps ≡ some vs → leading ps ≡ vs) → readEach ps ≡ q → both o q ≡ some ws → onto o (leading ps) ≡ ws
+    go : (o : Option ℕ) (q : Option (List ℕ)) → ((vs : List ℕ) → readEach ps ≡ some vs → leading ps ≡ vs) → readEach ps ≡ q
+        → both o q ≡ some ws → onto o (leading ps) ≡ ws
     go none q r h b = let z : _≡_ {A = ℕ} 0 1 = cc in absurd (omega arith)
     go (some w) none r h b = let z : _≡_ {A = ℕ} 0 1 = cc in absurd (omega arith)
     go (some w) (some vs) r h b = let s : w ∷ vs ≡ ws = cc in ap (λ (l : List ℕ). w ∷ l) (r vs h) ∙ s

@@ -47,7 +47,10 @@ kind-short k v h = go (eqb k 0) (eqb k 1) (ltb v 64) (eqb k 2) (bool (ltb v 63))
     keys (inr t) = rw t (omega arith)
 
     go : (a b c d : Bool) → (ltb v 63 ≡ true) ⊎ (ltb v 63 ≡ false) → (e f : Bool)
-        → length (rendered (cond a (message v) (cond b (cond c (name (partition v)) bad) (cond d (cond (ltb v 63) (name (key v)) bad) (cond e (cond f wildcard bad) bad))))) ≤ 11
+        → length (rendered (cond a (message v)
+        (cond b (cond c (name (partition v)) bad)
+        (cond d (cond (ltb v 63) (name (key v)) bad)
+        (cond e (cond f wildcard bad) bad))))) ≤ 11
     go true b c d t e f = let l = decimals in omega arith
     go false true true d t e f = let l = decimals in omega arith
     go false true false d t e f = omega arith

@@ -22,6 +22,34 @@ abbrev asked : ℕ → In 1 kinds.ps
 asked t = and 1 kinds.ps (falls 1 kinds.ps _<_ μ t) reads.Pre
 
 module _ (t : ℕ) where
+  -- the places of the walk, each by its way to the place before it: `a-b` goes from `a` back to `b`; `to-a` is where the call of `a` begins
+  -- one digit
+  abbrev digit-start : lts.Then1 (asked t, reads.Post) (given t) reads.Post → lts.Start (asked t, reads.Post) (given t) reads.Post
+  digit-start c = c .before .before
+
+  -- more digits
+  abbrev more-start : lts.Else1 (asked t, reads.Post) (given t) reads.Post → lts.Start (asked t, reads.Post) (given t) reads.Post
+  more-start c = c .before .before
+
+  abbrev to-tenth-more : lts.After-render-decimal-arg (asked t, reads.Post) (given t) reads.Post → lts.Else1 (asked t, reads.Post) (given t) reads.Post
+  to-tenth-more c = c .before
+
+  abbrev to-tenth-start : lts.After-render-decimal-arg (asked t, reads.Post) (given t) reads.Post → lts.Start (asked t, reads.Post) (given t) reads.Post
+  to-tenth-start c = more-start (to-tenth-more c)
+
+  abbrev tenth-lent : lts.After-render-decimal (asked t, reads.Post) (given t) reads.Post
+      → lts.After-render-decimal-arg (asked t, reads.Post) (given t) reads.Post
+  tenth-lent c = c .before
+
+  abbrev back-tenth : lts.After-slice-known2 (asked t, reads.Post) (given t) reads.Post → lts.After-render-decimal (asked t, reads.Post) (given t) reads.Post
+  back-tenth c = c .before .before
+
+  abbrev tenth-back-more : lts.After-slice-known2 (asked t, reads.Post) (given t) reads.Post → lts.Else1 (asked t, reads.Post) (given t) reads.Post
+  tenth-back-more c = to-tenth-more (tenth-lent (back-tenth c))
+
+  abbrev tenth-back-start : lts.After-slice-known2 (asked t, reads.Post) (given t) reads.Post → lts.Start (asked t, reads.Post) (given t) reads.Post
+  tenth-back-start c = more-start (tenth-back-more c)
+
   add-out : lts.Need-add-out (asked t, reads.Post) (given t) reads.Post
   add-out c = search needs
 
@@ -29,19 +57,22 @@ module _ (t : ℕ) where
   cast-out c = search needs
 
   slice-write-out : lts.Need-slice-write-out (asked t, reads.Post) (given t) reads.Post
-  slice-write-out c = small-room _ _ _ (c .if1 .taken) (c .before .before .pre .1)
+  slice-write-out c = small-room _ _ _ (c .if1 .taken) (digit-start c .pre .1)
 
   add-result : lts.Need-add-result (asked t, reads.Post) (given t) reads.Post
-  add-result c = let l = small-room _ _ _ (c .if1 .taken) (c .before .before .pre .1) in search needs
+  add-result c = let l = small-room _ _ _ (c .if1 .taken) (digit-start c .pre .1) in search needs
 
   same-length : lts.Need-same-length (asked t, reads.Post) (given t) reads.Post
   same-length c = search needs
 
   returns : lts.Need-returns (asked t, reads.Post) (given t) reads.Post
-  returns c = written-small _ _ _ (c .if1 .taken) (c .before .before .pre .1)
+  returns c = written-small _ _ _ (c .if1 .taken) (digit-start c .pre .1)
 
   render-decimal-requires : lts.Need-render-decimal-requires (asked t, reads.Post) (given t) reads.Post
-  render-decimal-requires c κs = (omega (arith, tenth-less _ (c .before .if1 .left)), tenth-room _ (c .before .before .before .args .out .now) _ (c .before .if1 .left) (c .before .before .before .pre .1))
+  render-decimal-requires c κs =
+      let s = to-tenth-start c in
+      let m = to-tenth-more c .if1 .left in
+      (omega (arith, tenth-less _ m), tenth-room _ (s .args .out .now) _ m (s .pre .1))
 
   add-out-2 : lts.Need-add-out-2 (asked t, reads.Post) (given t) reads.Post
   add-out-2 c = search needs
@@ -50,16 +81,33 @@ module _ (t : ℕ) where
   cast-out-2 c = search needs
 
   slice-write-out-2 : lts.Need-slice-write-out-2 (asked t, reads.Post) (given t) reads.Post
-  slice-write-out-2 c = last-room _ _ _ (c .before .before .before .before .if1 .left) (c .before .before .before .before .before .before .pre .1) _ _ (c .before .before .render-decimal .ensures)
+  slice-write-out-2 c = last-room _ _ _ (tenth-back-more c .if1 .left) (tenth-back-start c .pre .1) _ _ (back-tenth c .render-decimal .ensures)
 
   add-result-2 : lts.Need-add-result-2 (asked t, reads.Post) (given t) reads.Post
-  add-result-2 c = let l = last-room _ _ _ (c .before .before .before .before .if1 .left) (c .before .before .before .before .before .before .pre .1) _ _ (c .before .before .render-decimal .ensures) in search needs
+  add-result-2 c =
+      let l = last-room _ _ _ (tenth-back-more c .if1 .left) (tenth-back-start c .pre .1) _ _ (back-tenth c .render-decimal .ensures) in
+      search needs
 
   same-length-2 : lts.Need-same-length-2 (asked t, reads.Post) (given t) reads.Post
   same-length-2 c = search needs
 
   returns-2 : lts.Need-returns-2 (asked t, reads.Post) (given t) reads.Post
-  returns-2 c = written-more _ _ _ (c .before .before .before .before .if1 .left) (c .before .before .before .before .before .before .pre .1) _ _ (c .before .before .render-decimal .ensures)
+  returns-2 c = written-more _ _ _ (tenth-back-more c .if1 .left) (tenth-back-start c .pre .1) _ _ (back-tenth c .render-decimal .ensures)
 
 pub +render-decimal-spec : {M : Type 1} → statement M
-+render-decimal-spec = close μ λ t. lts.spec (asked t, reads.Post) (given t) reads.Post (add-out t) (cast-out t) (slice-write-out t) (add-result t) (same-length t) (returns t) (render-decimal-requires t) (add-out-2 t) (cast-out-2 t) (slice-write-out-2 t) (add-result-2 t) (same-length-2 t) (returns-2 t)
++render-decimal-spec =
+    close μ λ t.
+    lts.spec (asked t, reads.Post) (given t) reads.Post
+    (add-out t)
+    (cast-out t)
+    (slice-write-out t)
+    (add-result t)
+    (same-length t)
+    (returns t)
+    (render-decimal-requires t)
+    (add-out-2 t)
+    (cast-out-2 t)
+    (slice-write-out-2 t)
+    (add-result-2 t)
+    (same-length-2 t)
+    (returns-2 t)

@@ -15,9 +15,44 @@ use Rattle.text.proofs.FieldReading.{key-out, key-in}
 use Rattle.text.proofs.of_key.Statement.{statement}
 use Rattle.text.proofs.of_key.Tie as tie
 
+-- the places of the walk, each by its way to the place before it: `a-b` goes from `a` back to `b`
+abbrev told-key : tie.After-known-told → tie.After-key
+told-key c = c .before
+
+abbrev range-told : tie.After-key-in-range → tie.After-known-told
+range-told c = c .before
+
+abbrev outside-range : tie.Then1 → tie.After-key-in-range
+outside-range c = c .before
+
+abbrev outside-told : tie.Then1 → tie.After-known-told
+outside-told c = range-told (outside-range c)
+
+abbrev outside-key : tie.Then1 → tie.After-key
+outside-key c = told-key (outside-told c)
+
+abbrev inside-range : tie.Else1 → tie.After-key-in-range
+inside-range c = c .before
+
+abbrev kept-inside : tie.After-stored-key → tie.Else1
+kept-inside c = c .before
+
+abbrev kept-range : tie.After-stored-key → tie.After-key-in-range
+kept-range c = inside-range (kept-inside c)
+
+abbrev kept-told : tie.After-stored-key → tie.After-known-told
+kept-told c = range-told (kept-range c)
+
+abbrev kept-key : tie.After-stored-key → tie.After-key
+kept-key c = told-key (kept-told c)
+
 -- the key read back from its bits
-key-kept : (c : tie.After-known-told) → toZ w32 (ofZ w32 (c .before .key .given .0 .0)) ≡ (c .before .key .given .0 .0)
+key-kept : (c : tie.After-known-told) → toZ w32 (ofZ w32 (told-key c .key .given .0 .0)) ≡ (told-key c .key .given .0 .0)
 key-kept c = toZ-ofZ (record { sfits = c .known-told .given .0 .1 })
+
+-- what the test of its range says
+ranged : (c : tie.After-key-in-range) → keyInRange (told-key (range-told c) .key .given .0 .0) ≡ c .key-in-range .result
+ranged c = ap keyInRange (sym (key-kept (range-told c))) ∙ sym (c .key-in-range .ensures)
 
 enum-known-key : tie.Need-enum-known-key
 enum-known-key c = search needs
@@ -33,20 +68,21 @@ key-in-range-requires : tie.Need-key-in-range-requires
 key-in-range-requires c κs = search needs
 
 returns-2 : tie.Need-returns-2
-returns-2 c = key-out _ _ (c .before .before .before .key .given .1) (ap keyInRange (sym (key-kept (c .before .before))) ∙ sym (c .before .key-in-range .ensures) ∙ not-true _ (c .if1 .taken))
+returns-2 c = key-out _ _ (outside-key c .key .given .1) (ranged (outside-range c) ∙ not-true _ (c .if1 .taken))
 
 stored-key-requires : tie.Need-stored-key-requires
-stored-key-requires c κs = sym (c .before .key-in-range .ensures) ∙ not-false _ (c .if1 .left)
+stored-key-requires c κs = sym (inside-range c .key-in-range .ensures) ∙ not-false _ (c .if1 .left)
 
 add-t6 : tie.Need-add-t6
 add-t6 c =
-    let l = stored-le (toZ w32 (ofZ w32 (c .before .before .before .before .key .given .0 .0))) (sym (c .before .before .key-in-range .ensures) ∙ not-false _ (c .before .if1 .left)) in
+    let h = sym (kept-range c .key-in-range .ensures) ∙ not-false _ (kept-inside c .if1 .left) in
+    let l = stored-le (toZ w32 (ofZ w32 (kept-key c .key .given .0 .0))) h in
     omega (arith, c .stored-key .ensures)
 
 returns-3 : tie.Need-returns-3
 returns-3 c =
-    key-in _ _ (c .before .before .before .before .key .given .1) (ap keyInRange (sym (key-kept (c .before .before .before))) ∙ sym (c .before .before .key-in-range .ensures) ∙ not-false _ (c .before .if1 .left)) _
-    (c .stored-key .ensures ∙ ap stored (key-kept (c .before .before .before)))
+    let h = ranged (kept-range c) ∙ not-false _ (kept-inside c .if1 .left) in
+    key-in _ _ (kept-key c .key .given .1) h _ (c .stored-key .ensures ∙ ap stored (key-kept (kept-told c)))
 
 pub of-key-spec : {M : Type 1} → statement M
 of-key-spec =

@@ -7,6 +7,19 @@ use Rattle.text.specs.declared.Number.{Number}
 use Rattle.text.proofs.of_kind.Statement.{statement}
 use Rattle.text.proofs.of_kind.Tie as tie
 
+-- the places of the walk, each by its way to the place before it: `a-b` goes from `a` back to `b`
+abbrev value-start : tie.After-value → tie.Start
+value-start c = c .before .before
+
+abbrev told-value : tie.After-known-told → tie.After-value
+told-value c = c .before
+
+abbrev told-start : tie.After-known-told → tie.Start
+told-start c = value-start (told-value c)
+
+abbrev unread-start : tie.After-enum-told → tie.Start
+unread-start c = c .before .before
+
 enum-known-value : tie.Need-enum-known-value
 enum-known-value c = search needs
 
@@ -15,7 +28,7 @@ enum-told c = search needs
 
 returns : tie.Need-returns
 unfolding wordOf
-returns c = ap (λ (n : Number). wordOf (ofKind (c .before .before .args .kind) (valueIn n))) (sym (c .enum-told .given .1))
+returns c = ap (λ (n : Number). wordOf (ofKind (unread-start c .args .kind) (valueIn n))) (sym (c .enum-told .given .1))
 
 mul-t4 : tie.Need-mul-t4
 mul-t4 c = search needs
@@ -28,7 +41,7 @@ add-t6 c = search needs
 
 returns-2 : tie.Need-returns-2
 unfolding wordOf
-returns-2 c = ap (λ (n : Number). wordOf (ofKind (c .before .before .before .args .kind) (valueIn n))) (sym (c .before .value .given .1))
+returns-2 c = ap (λ (n : Number). wordOf (ofKind (told-start c .args .kind) (valueIn n))) (sym (told-value c .value .given .1))
 
 pub of-kind-spec : {M : Type 1} → statement M
 of-kind-spec =

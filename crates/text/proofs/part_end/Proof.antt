@@ -15,6 +15,37 @@ Inv-loop text at sep i₀ i = at + length (before sep (drop at text)) ≡ i + le
 abbrev μ-loop : tie.MeasureT-loop
 μ-loop text at sep i₀ i = length text - i
 
+-- the places of the walk, each by its way to the place before it: `a-b` goes from `a` back to `b`
+abbrev loop-start : tie.At-loop Inv-loop μ-loop → tie.Start Inv-loop μ-loop
+loop-start c = c .before
+
+abbrev turn-loop : tie.In-loop Inv-loop μ-loop → tie.At-loop Inv-loop μ-loop
+turn-loop c = c .before
+
+abbrev found-turn : tie.Then1 Inv-loop μ-loop → tie.In-loop Inv-loop μ-loop
+found-turn c = c .before .before
+
+abbrev found-loop : tie.Then1 Inv-loop μ-loop → tie.At-loop Inv-loop μ-loop
+found-loop c = turn-loop (found-turn c)
+
+abbrev found-start : tie.Then1 Inv-loop μ-loop → tie.Start Inv-loop μ-loop
+found-start c = loop-start (found-loop c)
+
+abbrev further-turn : tie.Else1 Inv-loop μ-loop → tie.In-loop Inv-loop μ-loop
+further-turn c = c .before .before
+
+abbrev further-loop : tie.Else1 Inv-loop μ-loop → tie.At-loop Inv-loop μ-loop
+further-loop c = turn-loop (further-turn c)
+
+abbrev further-start : tie.Else1 Inv-loop μ-loop → tie.Start Inv-loop μ-loop
+further-start c = loop-start (further-loop c)
+
+abbrev done-loop : tie.After-loop Inv-loop μ-loop → tie.At-loop Inv-loop μ-loop
+done-loop c = c .before
+
+abbrev done-start : tie.After-loop Inv-loop μ-loop → tie.Start Inv-loop μ-loop
+done-start c = loop-start (done-loop c)
+
 loop-holds : tie.Need-loop-holds Inv-loop μ-loop
 loop-holds c = refl
 
@@ -22,7 +53,10 @@ shared-slice-read-if1 : tie.Need-shared-slice-read-if1 Inv-loop μ-loop
 shared-slice-read-if1 c = search needs
 
 returns : tie.Need-returns Inv-loop μ-loop
-returns c = omega (arith, c .before .before .before .loop .inv, ap length (before-here (c .before .before .before .before .args .sep) (c .before .before .before .before .args .text .now) _ (c .before .before .loop-test .taken) (c .if1 .taken)))
+returns c =
+    let a = found-start c .args in
+    let e = before-here (a .sep) (a .text .now) _ (found-turn c .loop-test .taken) (c .if1 .taken) in
+    omega (arith, found-loop c .loop .inv, ap length e)
 
 add-i : tie.Need-add-i Inv-loop μ-loop
 add-i c = search needs
@@ -31,10 +65,15 @@ loop-less : tie.Need-loop-less Inv-loop μ-loop
 loop-less c = search needs
 
 loop-again : tie.Need-loop-again Inv-loop μ-loop
-loop-again c = omega (arith, c .before .before .before .loop .inv, ap length (before-on (c .before .before .before .before .args .sep) (c .before .before .before .before .args .text .now) _ (c .before .before .loop-test .taken) (c .if1 .left)))
+loop-again c =
+    let a = further-start c .args in
+    let e = before-on (a .sep) (a .text .now) _ (further-turn c .loop-test .taken) (c .if1 .left) in
+    omega (arith, further-loop c .loop .inv, ap length e)
 
 returns-2 : tie.Need-returns-2 Inv-loop μ-loop
-returns-2 c = omega (arith, c .before .loop .inv, ap length (before-end (c .before .before .args .sep) (c .before .before .args .text .now) _ (c .loop-test .left)))
+returns-2 c =
+    let a = done-start c .args in
+    omega (arith, done-loop c .loop .inv, ap length (before-end (a .sep) (a .text .now) _ (c .loop-test .left)))
 
 pub part-end-spec : {M : Type 1} → statement M
 part-end-spec =

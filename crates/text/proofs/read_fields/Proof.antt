@@ -4,7 +4,8 @@ use mathlib.Core.Path.{sym, _∙_}
 use native.Mathlib.Omega.{arith}
 use borrow.Author.Needs.{needs}
 use lib.ListN.{length-set}
-use Rattle.text.proofs.ListReading.{word-none, word-some, dash-fields, Reading, reading-begins, same-length, full, low, high, stopped, done-all, reading-on}
+use Rattle.text.proofs.ListReading.{word-none, word-some, dash-fields, Reading, reading-begins}
+use Rattle.text.proofs.ListReading.{same-length, full, low, high, stopped, done-all, reading-on}
 use Rattle.text.proofs.read_fields.Statement.{statement}
 use Rattle.text.proofs.read_fields.Tie as tie
 
@@ -14,26 +15,113 @@ Inv-loop text fields₀ at₀ n₀ fields at n = Reading text fields₀ fields a
 abbrev μ-loop : tie.MeasureT-loop
 μ-loop text fields₀ at₀ n₀ fields at n = 16 - n
 
+-- the places of the walk, each by its way to the place before it: `a-b` goes from `a` back to `b`
+abbrev dash-start : tie.After-is-dash Inv-loop μ-loop → tie.Start Inv-loop μ-loop
+dash-start c = c .before .before .before
+
+abbrev is-dash-dash : tie.Then1 Inv-loop μ-loop → tie.After-is-dash Inv-loop μ-loop
+is-dash-dash c = c .before
+
+abbrev no-dash-dash : tie.Else1 Inv-loop μ-loop → tie.After-is-dash Inv-loop μ-loop
+no-dash-dash c = c .before
+
+abbrev no-dash-start : tie.Else1 Inv-loop μ-loop → tie.Start Inv-loop μ-loop
+no-dash-start c = dash-start (no-dash-dash c)
+
+abbrev turn-loop : tie.In-loop Inv-loop μ-loop → tie.At-loop Inv-loop μ-loop
+turn-loop c = c .before
+
+abbrev end-turn : tie.After-part-end Inv-loop μ-loop → tie.In-loop Inv-loop μ-loop
+end-turn c = c .before
+
+abbrev end-loop : tie.After-part-end Inv-loop μ-loop → tie.At-loop Inv-loop μ-loop
+end-loop c = turn-loop (end-turn c)
+
+abbrev read-end : tie.After-read-field Inv-loop μ-loop → tie.After-part-end Inv-loop μ-loop
+read-end c = c .before .before
+
+-- a field
+abbrev word-read : tie.After-w Inv-loop μ-loop → tie.After-read-field Inv-loop μ-loop
+word-read c = c .before .before
+
+abbrev told-word : tie.After-known-told Inv-loop μ-loop → tie.After-w Inv-loop μ-loop
+told-word c = c .before
+
+abbrev told-loop : tie.After-known-told Inv-loop μ-loop → tie.At-loop Inv-loop μ-loop
+told-loop c = end-loop (read-end (word-read (told-word c)))
+
+-- the last one
+abbrev last-told : tie.Then2 Inv-loop μ-loop → tie.After-known-told Inv-loop μ-loop
+last-told c = c .before
+
+abbrev last-word : tie.Then2 Inv-loop μ-loop → tie.After-w Inv-loop μ-loop
+last-word c = told-word (last-told c)
+
+abbrev last-read : tie.Then2 Inv-loop μ-loop → tie.After-read-field Inv-loop μ-loop
+last-read c = word-read (last-word c)
+
+abbrev last-end : tie.Then2 Inv-loop μ-loop → tie.After-part-end Inv-loop μ-loop
+last-end c = read-end (last-read c)
+
+abbrev last-turn : tie.Then2 Inv-loop μ-loop → tie.In-loop Inv-loop μ-loop
+last-turn c = end-turn (last-end c)
+
+abbrev last-loop : tie.Then2 Inv-loop μ-loop → tie.At-loop Inv-loop μ-loop
+last-loop c = turn-loop (last-turn c)
+
+-- more of them
+abbrev more-told : tie.Else2 Inv-loop μ-loop → tie.After-known-told Inv-loop μ-loop
+more-told c = c .before
+
+abbrev more-word : tie.Else2 Inv-loop μ-loop → tie.After-w Inv-loop μ-loop
+more-word c = told-word (more-told c)
+
+abbrev more-read : tie.Else2 Inv-loop μ-loop → tie.After-read-field Inv-loop μ-loop
+more-read c = word-read (more-word c)
+
+abbrev more-end : tie.Else2 Inv-loop μ-loop → tie.After-part-end Inv-loop μ-loop
+more-end c = read-end (more-read c)
+
+abbrev more-turn : tie.Else2 Inv-loop μ-loop → tie.In-loop Inv-loop μ-loop
+more-turn c = end-turn (more-end c)
+
+abbrev more-loop : tie.Else2 Inv-loop μ-loop → tie.At-loop Inv-loop μ-loop
+more-loop c = turn-loop (more-turn c)
+
+-- an unreadable part
+abbrev unread-read : tie.After-enum-told Inv-loop μ-loop → tie.After-read-field Inv-loop μ-loop
+unread-read c = c .before .before
+
+abbrev unread-end : tie.After-enum-told Inv-loop μ-loop → tie.After-part-end Inv-loop μ-loop
+unread-end c = read-end (unread-read c)
+
+abbrev unread-loop : tie.After-enum-told Inv-loop μ-loop → tie.At-loop Inv-loop μ-loop
+unread-loop c = end-loop (unread-end c)
+
+-- more than sixteen
+abbrev full-loop : tie.After-loop Inv-loop μ-loop → tie.At-loop Inv-loop μ-loop
+full-loop c = c .before
+
 is-dash-requires : tie.Need-is-dash-requires Inv-loop μ-loop
 is-dash-requires c κs = search needs
 
 returns : tie.Need-returns Inv-loop μ-loop
-returns c = dash-fields _ _ (sym (c .before .is-dash .ensures) ∙ c .if1 .taken)
+returns c = dash-fields _ _ (sym (is-dash-dash c .is-dash .ensures) ∙ c .if1 .taken)
 
 loop-holds : tie.Need-loop-holds Inv-loop μ-loop
-loop-holds c = reading-begins _ _ (c .before .before .before .before .pre) (sym (c .before .is-dash .ensures) ∙ c .if1 .left)
+loop-holds c = reading-begins _ _ (no-dash-start c .pre) (sym (no-dash-dash c .is-dash .ensures) ∙ c .if1 .left)
 
 part-end-requires : tie.Need-part-end-requires Inv-loop μ-loop
 part-end-requires c κs = search needs
 
 sub-read-field : tie.Need-sub-read-field Inv-loop μ-loop
-sub-read-field c = low (c .before .before .loop .inv) _ (c .part-end .ensures)
+sub-read-field c = low (end-loop c .loop .inv) _ (c .part-end .ensures)
 
 part-read-field-start : tie.Need-part-read-field-start Inv-loop μ-loop
 part-read-field-start c = search needs
 
 part-read-field-end : tie.Need-part-read-field-end Inv-loop μ-loop
-part-read-field-end c = high (c .before .before .loop .inv) _ (c .part-end .ensures)
+part-read-field-end c = high (end-loop c .loop .inv) _ (c .part-end .ensures)
 
 read-field-requires : tie.Need-read-field-requires Inv-loop μ-loop
 read-field-requires c κs = search needs
@@ -45,40 +133,46 @@ enum-told : tie.Need-enum-told Inv-loop μ-loop
 enum-told c = search needs
 
 same-length-1 : tie.Need-same-length Inv-loop μ-loop
-same-length-1 c = same-length (c .before .before .before .before .before .before .loop .inv)
+same-length-1 c = same-length (unread-loop c .loop .inv)
 
 returns-2 : tie.Need-returns-2 Inv-loop μ-loop
-returns-2 c = stopped (c .before .before .before .before .before .before .loop .inv) _ (c .before .before .before .before .part-end .ensures) (word-none _ (sym (c .enum-told .given .1) ∙ c .before .before .read-field .ensures))
+returns-2 c =
+    let none = word-none _ (sym (c .enum-told .given .1) ∙ unread-read c .read-field .ensures) in
+    stopped (unread-loop c .loop .inv) _ (unread-end c .part-end .ensures) none
 
 mul-fields : tie.Need-mul-fields Inv-loop μ-loop
 mul-fields c = search needs
 
 slice-write-fields : tie.Need-slice-write-fields Inv-loop μ-loop
-slice-write-fields c = omega (arith, c .before .before .before .before .before .before .before .loop .inv .room, same-length (c .before .before .before .before .before .before .before .loop .inv))
+slice-write-fields c = omega (arith, told-loop c .loop .inv .room, same-length (told-loop c .loop .inv))
 
 add-n : tie.Need-add-n Inv-loop μ-loop
 add-n c = search needs
 
 same-length-2 : tie.Need-same-length-2 Inv-loop μ-loop
-same-length-2 c = length-set (c .before .before .before .before .before .before .before .before .loop .fields) _ _ ∙ same-length (c .before .before .before .before .before .before .before .before .loop .inv)
+same-length-2 c = length-set (last-loop c .loop .fields) _ _ ∙ same-length (last-loop c .loop .inv)
 
 returns-3 : tie.Need-returns-3 Inv-loop μ-loop
-returns-3 c = done-all (c .before .before .before .before .before .before .before .before .loop .inv) _ (c .before .before .before .before .before .before .part-end .ensures) _ (word-some _ _ (sym (c .before .before .w .given .1) ∙ c .before .before .before .before .read-field .ensures)) (c .before .before .before .before .before .before .before .loop-test .taken) (c .if2 .taken)
+returns-3 c =
+    let field = word-some _ _ (sym (last-word c .w .given .1) ∙ last-read c .read-field .ensures) in
+    done-all (last-loop c .loop .inv) _ (last-end c .part-end .ensures) _ field (last-turn c .loop-test .taken) (c .if2 .taken)
 
 add-at : tie.Need-add-at Inv-loop μ-loop
-add-at c = let l = high (c .before .before .before .before .before .before .before .before .loop .inv) _ (c .before .before .before .before .before .before .part-end .ensures) in omega (arith, c .if2 .left, l)
+add-at c = let l = high (more-loop c .loop .inv) _ (more-end c .part-end .ensures) in omega (arith, c .if2 .left, l)
 
 loop-less : tie.Need-loop-less Inv-loop μ-loop
 loop-less c = search needs
 
 loop-again : tie.Need-loop-again Inv-loop μ-loop
-loop-again c = reading-on (c .before .before .before .before .before .before .before .before .loop .inv) _ (c .before .before .before .before .before .before .part-end .ensures) _ (word-some _ _ (sym (c .before .before .w .given .1) ∙ c .before .before .before .before .read-field .ensures)) (c .before .before .before .before .before .before .before .loop-test .taken) (c .if2 .left)
+loop-again c =
+    let field = word-some _ _ (sym (more-word c .w .given .1) ∙ more-read c .read-field .ensures) in
+    reading-on (more-loop c .loop .inv) _ (more-end c .part-end .ensures) _ field (more-turn c .loop-test .taken) (c .if2 .left)
 
 same-length-3 : tie.Need-same-length-3 Inv-loop μ-loop
-same-length-3 c = same-length (c .before .loop .inv)
+same-length-3 c = same-length (full-loop c .loop .inv)
 
 returns-4 : tie.Need-returns-4 Inv-loop μ-loop
-returns-4 c = full (c .before .loop .inv) (c .loop-test .left)
+returns-4 c = full (full-loop c .loop .inv) (c .loop-test .left)
 
 pub read-fields-spec : {M : Type 1} → statement M
 read-fields-spec =

@@ -18,15 +18,79 @@ Inv-loop text most value₀ i₀ value i =
 abbrev μ-loop : tie.MeasureT-loop
 μ-loop text most value₀ i₀ value i = length text - i
 
+-- the places of the walk, each by its way to the place before it: `a-b` goes from `a` back to `b`
+abbrev ill-begun : tie.Then1 Inv-loop μ-loop → tie.After-starts-well Inv-loop μ-loop
+ill-begun c = c .before
+
+abbrev well-begun : tie.Else1 Inv-loop μ-loop → tie.After-starts-well Inv-loop μ-loop
+well-begun c = c .before
+
+abbrev turn-loop : tie.In-loop Inv-loop μ-loop → tie.At-loop Inv-loop μ-loop
+turn-loop c = c .before
+
+abbrev byte-turn : tie.After-shared-slice-known2 Inv-loop μ-loop → tie.In-loop Inv-loop μ-loop
+byte-turn c = c .before
+
+abbrev digit-byte : tie.After-is-digit Inv-loop μ-loop → tie.After-shared-slice-known2 Inv-loop μ-loop
+digit-byte c = c .before
+
+abbrev other-digit : tie.Then2 Inv-loop μ-loop → tie.After-is-digit Inv-loop μ-loop
+other-digit c = c .before
+
+abbrev other-turn : tie.Then2 Inv-loop μ-loop → tie.In-loop Inv-loop μ-loop
+other-turn c = byte-turn (digit-byte (other-digit c))
+
+abbrev other-loop : tie.Then2 Inv-loop μ-loop → tie.At-loop Inv-loop μ-loop
+other-loop c = turn-loop (other-turn c)
+
+abbrev digits-digit : tie.Else2 Inv-loop μ-loop → tie.After-is-digit Inv-loop μ-loop
+digits-digit c = c .before
+
+abbrev digits-byte : tie.Else2 Inv-loop μ-loop → tie.After-shared-slice-known2 Inv-loop μ-loop
+digits-byte c = digit-byte (digits-digit c)
+
+abbrev digits-turn : tie.Else2 Inv-loop μ-loop → tie.In-loop Inv-loop μ-loop
+digits-turn c = byte-turn (digits-byte c)
+
+abbrev digits-loop : tie.Else2 Inv-loop μ-loop → tie.At-loop Inv-loop μ-loop
+digits-loop c = turn-loop (digits-turn c)
+
+abbrev too-much-digits : tie.Then3 Inv-loop μ-loop → tie.Else2 Inv-loop μ-loop
+too-much-digits c = c .before
+
+abbrev too-much-digit : tie.Then3 Inv-loop μ-loop → tie.After-is-digit Inv-loop μ-loop
+too-much-digit c = digits-digit (too-much-digits c)
+
+abbrev too-much-turn : tie.Then3 Inv-loop μ-loop → tie.In-loop Inv-loop μ-loop
+too-much-turn c = byte-turn (digit-byte (too-much-digit c))
+
+abbrev too-much-loop : tie.Then3 Inv-loop μ-loop → tie.At-loop Inv-loop μ-loop
+too-much-loop c = turn-loop (too-much-turn c)
+
+abbrev next-digit-digits : tie.Else3 Inv-loop μ-loop → tie.Else2 Inv-loop μ-loop
+next-digit-digits c = c .before
+
+abbrev next-digit-digit : tie.Else3 Inv-loop μ-loop → tie.After-is-digit Inv-loop μ-loop
+next-digit-digit c = digits-digit (next-digit-digits c)
+
+abbrev next-digit-turn : tie.Else3 Inv-loop μ-loop → tie.In-loop Inv-loop μ-loop
+next-digit-turn c = byte-turn (digit-byte (next-digit-digit c))
+
+abbrev next-digit-loop : tie.Else3 Inv-loop μ-loop → tie.At-loop Inv-loop μ-loop
+next-digit-loop c = turn-loop (next-digit-turn c)
+
+abbrev done-loop : tie.After-loop Inv-loop μ-loop → tie.At-loop Inv-loop μ-loop
+done-loop c = c .before
+
 starts-well-requires : tie.Need-starts-well-requires Inv-loop μ-loop
 starts-well-requires c κs = search needs
 
 returns : tie.Need-returns Inv-loop μ-loop
 unfolding numberOf
-returns c = ap numberOf (sym (starts-ill _ _ (sym (c .before .starts-well .ensures) ∙ not-true _ (c .if1 .taken))))
+returns c = ap numberOf (sym (starts-ill _ _ (sym (ill-begun c .starts-well .ensures) ∙ not-true _ (c .if1 .taken))))
 
 loop-holds : tie.Need-loop-holds Inv-loop μ-loop
-loop-holds c = (search needs, search needs, starts _ _ (sym (c .before .starts-well .ensures) ∙ not-false _ (c .if1 .left)))
+loop-holds c = (search needs, search needs, starts _ _ (sym (well-begun c .starts-well .ensures) ∙ not-false _ (c .if1 .left)))
 
 shared-slice-read-b : tie.Need-shared-slice-read-b Inv-loop μ-loop
 shared-slice-read-b c = search needs
@@ -37,27 +101,27 @@ is-digit-requires c κs = search needs
 returns-2 : tie.Need-returns-2 Inv-loop μ-loop
 unfolding numberOf
 returns-2 c =
-    let h = c .before .before .before .loop-test .taken in
-    ap numberOf (sym (c .before .before .before .before .loop .inv .2 ∙ no-digit _ _ _ _ h (sym (c .before .is-digit .ensures) ∙ not-true _ (c .if2 .taken))))
+    let h = other-turn c .loop-test .taken in
+    ap numberOf (sym (other-loop c .loop .inv .2 ∙ no-digit _ _ _ _ h (sym (other-digit c .is-digit .ensures) ∙ not-true _ (c .if2 .taken))))
 
 mul-value : tie.Need-mul-value Inv-loop μ-loop
 mul-value c = search needs
 
 sub-value : tie.Need-sub-value Inv-loop μ-loop
-sub-value c = digit-low _ (sym (c .before .is-digit .ensures) ∙ not-false _ (c .if2 .left))
+sub-value c = digit-low _ (sym (digits-digit c .is-digit .ensures) ∙ not-false _ (c .if2 .left))
 
 cast-value : tie.Need-cast-value Inv-loop μ-loop
-cast-value c = omega (arith, c .before .before .shared-slice-known2 .given (c .before .before .before .before .loop .i))
+cast-value c = omega (arith, digits-byte c .shared-slice-known2 .given (digits-loop c .loop .i))
 
 add-value : tie.Need-add-value Inv-loop μ-loop
-add-value c = omega (arith, c .before .before .shared-slice-known2 .given (c .before .before .before .before .loop .i))
+add-value c = omega (arith, digits-byte c .shared-slice-known2 .given (digits-loop c .loop .i))
 
 returns-3 : tie.Need-returns-3 Inv-loop μ-loop
 unfolding numberOf
 returns-3 c =
-    let h = c .before .before .before .before .loop-test .taken in
-    let e = next _ _ _ _ h (sym (c .before .before .is-digit .ensures) ∙ not-false _ (c .before .if2 .left)) in
-    ap numberOf (sym (c .before .before .before .before .before .loop .inv .2 ∙ e ∙ too-much _ _ _ (c .if3 .taken)))
+    let h = too-much-turn c .loop-test .taken in
+    let e = next _ _ _ _ h (sym (too-much-digit c .is-digit .ensures) ∙ not-false _ (too-much-digits c .if2 .left)) in
+    ap numberOf (sym (too-much-loop c .loop .inv .2 ∙ e ∙ too-much _ _ _ (c .if3 .taken)))
 
 add-i : tie.Need-add-i Inv-loop μ-loop
 add-i c = search needs
@@ -67,15 +131,16 @@ loop-less c = search needs
 
 loop-again : tie.Need-loop-again Inv-loop μ-loop
 loop-again c =
-    let h = c .before .before .before .before .loop-test .taken in
-    (search needs, search needs, c .before .before .before .before .before .loop .inv .2 ∙ next _ _ _ _ h (sym (c .before .before .is-digit .ensures) ∙ not-false _ (c .before .if2 .left)))
+    let h = next-digit-turn c .loop-test .taken in
+    let digit = sym (next-digit-digit c .is-digit .ensures) ∙ not-false _ (next-digit-digits c .if2 .left) in
+    (search needs, search needs, next-digit-loop c .loop .inv .2 ∙ next _ _ _ _ h digit)
 
 cast-t15 : tie.Need-cast-t15 Inv-loop μ-loop
 cast-t15 c = search needs
 
 returns-4 : tie.Need-returns-4 Inv-loop μ-loop
 unfolding numberOf
-returns-4 c = ap numberOf (sym (c .before .loop .inv .2 ∙ ends _ _ _ _ (c .loop-test .left) (c .before .loop .inv .1)))
+returns-4 c = ap numberOf (sym (done-loop c .loop .inv .2 ∙ ends _ _ _ _ (c .loop-test .left) (done-loop c .loop .inv .1)))
 
 pub read-up-to-spec : {M : Type 1} → statement M
 read-up-to-spec =

@@ -1,11 +1,122 @@
 -- By the kind of the word: a letter and what follows it, or one byte.
-use mathlib.Core.Path.{_∙_}
+use mathlib.Core.List.{_∷_, []}
+use mathlib.Core.Path.{_∙_, _≡_}
+use Rattle.text.specs.Numbers.{decimal, decimalKey}
+use Rattle.text.specs.Fields.{keyOf, renderField}
 use borrow.Author.Needs.{needs}
 use lib.ListN.{length-set}
 use Rattle.text.proofs.Placing.{first-room, rest-room, written-rest, written-none}
 use Rattle.text.proofs.Rendering.{render-by}
 use Rattle.text.proofs.render_field.Statement.{statement}
 use Rattle.text.proofs.render_field.Tie as tie
+
+-- the places of the walk, each by its way to the place before it: `a-b` goes from `a` back to `b`; `to-a` is where the call of `a` begins
+abbrev kind-start : tie.After-field-of → tie.Start
+kind-start c = c .before .before
+
+-- a message
+abbrev message-kind : tie.After-f → tie.After-field-of
+message-kind c = c .before .before
+
+abbrev message-start : tie.After-f → tie.Start
+message-start c = kind-start (message-kind c)
+
+abbrev m-message : tie.After-known-told → tie.After-f
+m-message c = c .before
+
+abbrev to-value-m : tie.After-render-decimal-arg → tie.After-known-told
+to-value-m c = c .before
+
+abbrev to-value-message : tie.After-render-decimal-arg → tie.After-f
+to-value-message c = m-message (to-value-m c)
+
+abbrev value-lent : tie.After-render-decimal → tie.After-render-decimal-arg
+value-lent c = c .before
+
+abbrev back-value : tie.After-slice-known2 → tie.After-render-decimal
+back-value c = c .before .before
+
+abbrev value-back-message : tie.After-slice-known2 → tie.After-f
+value-back-message c = to-value-message (value-lent (back-value c))
+
+-- a partition
+abbrev partition-kind : tie.After-f2 → tie.After-field-of
+partition-kind c = c .before .before
+
+abbrev partition-start : tie.After-f2 → tie.Start
+partition-start c = kind-start (partition-kind c)
+
+abbrev p-partition : tie.After-known-told2 → tie.After-f2
+p-partition c = c .before
+
+abbrev to-digits-p : tie.After-render-decimal-arg2 → tie.After-known-told2
+to-digits-p c = c .before
+
+abbrev to-digits-partition : tie.After-render-decimal-arg2 → tie.After-f2
+to-digits-partition c = p-partition (to-digits-p c)
+
+abbrev digits-lent : tie.After-render-decimal2 → tie.After-render-decimal-arg2
+digits-lent c = c .before
+
+abbrev back-digits : tie.After-slice-known3 → tie.After-render-decimal2
+back-digits c = c .before .before
+
+abbrev digits-back-partition : tie.After-slice-known3 → tie.After-f2
+digits-back-partition c = to-digits-partition (digits-lent (back-digits c))
+
+-- a key
+abbrev key-kind : tie.After-f3 → tie.After-field-of
+key-kind c = c .before .before
+
+abbrev key-start : tie.After-f3 → tie.Start
+key-start c = kind-start (key-kind c)
+
+abbrev k-key : tie.After-known-told3 → tie.After-f3
+k-key c = c .before
+
+abbrev to-number-k : tie.After-render-key-arg → tie.After-known-told3
+to-number-k c = c .before
+
+abbrev to-number-key : tie.After-render-key-arg → tie.After-f3
+to-number-key c = k-key (to-number-k c)
+
+abbrev number-lent : tie.After-render-key → tie.After-render-key-arg
+number-lent c = c .before
+
+abbrev back-number : tie.After-slice-known4 → tie.After-render-key
+back-number c = c .before .before
+
+abbrev number-back-key : tie.After-slice-known4 → tie.After-f3
+number-back-key c = to-number-key (number-lent (back-number c))
+
+-- one byte
+abbrev wildcard-kind : tie.After-enum-told → tie.After-field-of
+wildcard-kind c = c .before .before
+
+abbrev wildcard-start : tie.After-enum-told → tie.Start
+wildcard-start c = kind-start (wildcard-kind c)
+
+abbrev bad-kind : tie.After-enum-told2 → tie.After-field-of
+bad-kind c = c .before .before
+
+abbrev bad-start : tie.After-enum-told2 → tie.Start
+bad-start c = kind-start (bad-kind c)
+
+-- the field's text, by its kind
+message-text : (c : tie.After-f) → renderField (message-start c .args .w) ≡ 109 ∷ decimal (c .f .given .0 .0)
+message-text c = render-by _ _ _ (message-kind c .field-of .ensures) (c .f .given .1)
+
+partition-text : (c : tie.After-f2) → renderField (partition-start c .args .w) ≡ 112 ∷ decimal (c .f2 .given .0 .0)
+partition-text c = render-by _ _ _ (partition-kind c .field-of .ensures) (c .f2 .given .1)
+
+key-text : (c : tie.After-f3) → renderField (key-start c .args .w) ≡ 107 ∷ decimalKey (keyOf (c .f3 .given .0 .0))
+key-text c = render-by _ _ _ (key-kind c .field-of .ensures) (c .f3 .given .1)
+
+wildcard-text : (c : tie.After-enum-told) → renderField (wildcard-start c .args .w) ≡ 42 ∷ []
+wildcard-text c = render-by _ _ _ (wildcard-kind c .field-of .ensures) (c .enum-told .given .1)
+
+bad-text : (c : tie.After-enum-told2) → renderField (bad-start c .args .w) ≡ 63 ∷ []
+bad-text c = render-by _ _ _ (bad-kind c .field-of .ensures) (c .enum-told2 .given .1)
 
 field-of-requires : tie.Need-field-of-requires
 field-of-requires c κs = search needs
@@ -14,43 +125,55 @@ enum-known-f : tie.Need-enum-known-f
 enum-known-f c = search needs
 
 slice-write-out : tie.Need-slice-write-out
-slice-write-out c = first-room (c .before .before .before .before .before .args .out .now) _ _ _ _ (render-by _ _ _ (c .before .before .before .field-of .ensures) (c .before .f .given .1)) (c .before .before .before .before .before .pre)
+slice-write-out c =
+    let s = message-start (m-message c) in
+    first-room (s .args .out .now) _ _ _ _ (message-text (m-message c)) (s .pre)
 
 add-render-decimal : tie.Need-add-render-decimal
 add-render-decimal c = search needs
 
 render-decimal-requires : tie.Need-render-decimal-requires
-render-decimal-requires c κs = rest-room (c .before .before .before .before .before .before .args .out .now) _ _ _ _ (render-by _ _ _ (c .before .before .before .before .field-of .ensures) (c .before .before .f .given .1)) (c .before .before .before .before .before .before .pre)
+render-decimal-requires c κs =
+    let s = message-start (to-value-message c) in
+    rest-room (s .args .out .now) _ _ _ _ (message-text (to-value-message c)) (s .pre)
 
 enum-known-f-2 : tie.Need-enum-known-f-2
 enum-known-f-2 c = search needs
 
 slice-write-out-2 : tie.Need-slice-write-out-2
-slice-write-out-2 c = first-room (c .before .before .before .before .before .args .out .now) _ _ _ _ (render-by _ _ _ (c .before .before .before .field-of .ensures) (c .before .f2 .given .1)) (c .before .before .before .before .before .pre)
+slice-write-out-2 c =
+    let s = partition-start (p-partition c) in
+    first-room (s .args .out .now) _ _ _ _ (partition-text (p-partition c)) (s .pre)
 
 add-render-decimal-2 : tie.Need-add-render-decimal-2
 add-render-decimal-2 c = search needs
 
 render-decimal-requires-2 : tie.Need-render-decimal-requires-2
-render-decimal-requires-2 c κs = rest-room (c .before .before .before .before .before .before .args .out .now) _ _ _ _ (render-by _ _ _ (c .before .before .before .before .field-of .ensures) (c .before .before .f2 .given .1)) (c .before .before .before .before .before .before .pre)
+render-decimal-requires-2 c κs =
+    let s = partition-start (to-digits-partition c) in
+    rest-room (s .args .out .now) _ _ _ _ (partition-text (to-digits-partition c)) (s .pre)
 
 enum-known-f-3 : tie.Need-enum-known-f-3
 enum-known-f-3 c = search needs
 
 slice-write-out-3 : tie.Need-slice-write-out-3
-slice-write-out-3 c = first-room (c .before .before .before .before .before .args .out .now) _ _ _ _ (render-by _ _ _ (c .before .before .before .field-of .ensures) (c .before .f3 .given .1)) (c .before .before .before .before .before .pre)
+slice-write-out-3 c =
+    let s = key-start (k-key c) in
+    first-room (s .args .out .now) _ _ _ _ (key-text (k-key c)) (s .pre)
 
 add-render-key : tie.Need-add-render-key
 add-render-key c = search needs
 
 render-key-requires : tie.Need-render-key-requires
-render-key-requires c κs = rest-room (c .before .before .before .before .before .before .args .out .now) _ _ _ _ (render-by _ _ _ (c .before .before .before .before .field-of .ensures) (c .before .before .f3 .given .1)) (c .before .before .before .before .before .before .pre)
+render-key-requires c κs =
+    let s = key-start (to-number-key c) in
+    rest-room (s .args .out .now) _ _ _ _ (key-text (to-number-key c)) (s .pre)
 
 enum-told : tie.Need-enum-told
 enum-told c = search needs
 
 slice-write-out-4 : tie.Need-slice-write-out-4
-slice-write-out-4 c = first-room (c .before .before .before .before .args .out .now) _ _ _ _ (render-by _ _ _ (c .before .before .field-of .ensures) (c .enum-told .given .1)) (c .before .before .before .before .pre)
+slice-write-out-4 c = let s = wildcard-start c in first-room (s .args .out .now) _ _ _ _ (wildcard-text c) (s .pre)
 
 add-result : tie.Need-add-result
 add-result c = search needs
@@ -59,40 +182,50 @@ enum-told-2 : tie.Need-enum-told-2
 enum-told-2 c = search needs
 
 slice-write-out-5 : tie.Need-slice-write-out-5
-slice-write-out-5 c = first-room (c .before .before .before .before .args .out .now) _ _ _ _ (render-by _ _ _ (c .before .before .field-of .ensures) (c .enum-told2 .given .1)) (c .before .before .before .before .pre)
+slice-write-out-5 c = let s = bad-start c in first-room (s .args .out .now) _ _ _ _ (bad-text c) (s .pre)
 
 add-result-2 : tie.Need-add-result-2
 add-result-2 c = search needs
 
 same-length : tie.Need-same-length
-same-length c = c .before .before .render-decimal .kept .1 .0 ∙ length-set (c .before .before .before .before .before .before .before .before .before .args .out .now) _ _
+same-length c = back-value c .render-decimal .kept .1 .0 ∙ length-set (message-start (value-back-message c) .args .out .now) _ _
 
 returns : tie.Need-returns
-returns c = written-rest _ _ _ _ _ (render-by _ _ _ (c .before .before .before .before .before .before .before .field-of .ensures) (c .before .before .before .before .before .f .given .1)) (c .before .before .before .before .before .before .before .before .before .pre) (c .before .before .render-decimal .ensures)
+returns c =
+    let m = value-back-message c in
+    written-rest _ _ _ _ _ (message-text m) (message-start m .pre) (back-value c .render-decimal .ensures)
 
 same-length-2 : tie.Need-same-length-2
-same-length-2 c = c .before .before .render-decimal2 .kept .1 .0 ∙ length-set (c .before .before .before .before .before .before .before .before .before .args .out .now) _ _
+same-length-2 c = back-digits c .render-decimal2 .kept .1 .0 ∙ length-set (partition-start (digits-back-partition c) .args .out .now) _ _
 
 returns-2 : tie.Need-returns-2
-returns-2 c = written-rest _ _ _ _ _ (render-by _ _ _ (c .before .before .before .before .before .before .before .field-of .ensures) (c .before .before .before .before .before .f2 .given .1)) (c .before .before .before .before .before .before .before .before .before .pre) (c .before .before .render-decimal2 .ensures)
+returns-2 c =
+    let p = digits-back-partition c in
+    written-rest _ _ _ _ _ (partition-text p) (partition-start p .pre) (back-digits c .render-decimal2 .ensures)
 
 same-length-3 : tie.Need-same-length-3
-same-length-3 c = c .before .before .render-key .kept .1 .0 ∙ length-set (c .before .before .before .before .before .before .before .before .before .args .out .now) _ _
+same-length-3 c = back-number c .render-key .kept .1 .0 ∙ length-set (key-start (number-back-key c) .args .out .now) _ _
 
 returns-3 : tie.Need-returns-3
-returns-3 c = written-rest _ _ _ _ _ (render-by _ _ _ (c .before .before .before .before .before .before .before .field-of .ensures) (c .before .before .before .before .before .f3 .given .1)) (c .before .before .before .before .before .before .before .before .before .pre) (c .before .before .render-key .ensures)
+returns-3 c =
+    let k = number-back-key c in
+    written-rest _ _ _ _ _ (key-text k) (key-start k .pre) (back-number c .render-key .ensures)
 
 same-length-4 : tie.Need-same-length-4
 same-length-4 c = search needs
 
 returns-4 : tie.Need-returns-4
-returns-4 c = written-rest (c .before .before .before .before .args .out .now) _ _ _ _ (render-by _ _ _ (c .before .before .field-of .ensures) (c .enum-told .given .1)) (c .before .before .before .before .pre) (written-none _ _)
+returns-4 c =
+    let s = wildcard-start c in
+    written-rest (s .args .out .now) _ _ _ _ (wildcard-text c) (s .pre) (written-none _ _)
 
 same-length-5 : tie.Need-same-length-5
 same-length-5 c = search needs
 
 returns-5 : tie.Need-returns-5
-returns-5 c = written-rest (c .before .before .before .before .args .out .now) _ _ _ _ (render-by _ _ _ (c .before .before .field-of .ensures) (c .enum-told2 .given .1)) (c .before .before .before .before .pre) (written-none _ _)
+returns-5 c =
+    let s = bad-start c in
+    written-rest (s .args .out .now) _ _ _ _ (bad-text c) (s .pre) (written-none _ _)
 
 pub render-field-spec : {M : Type 1} → statement M
 render-field-spec =

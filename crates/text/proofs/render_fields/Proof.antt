@@ -14,29 +14,103 @@ Inv-loop fields out₀ at end₀ i₀ out end i = More fields out₀ end₀ out 
 abbrev μ-loop : tie.MeasureT-loop
 μ-loop fields out₀ at end₀ i₀ out end i = length fields - i
 
+-- the places of the walk, each by its way to the place before it: `a-b` goes from `a` back to `b`; `to-a` is where the call of `a` begins
+-- no fields
+abbrev empty-start : tie.Then1 Inv-loop μ-loop → tie.Start Inv-loop μ-loop
+empty-start c = c .before .before .before
+
+-- the first field
+abbrev some-start : tie.Else1 Inv-loop μ-loop → tie.Start Inv-loop μ-loop
+some-start c = c .before .before .before
+
+abbrev to-first-some : tie.After-render-field-arg Inv-loop μ-loop → tie.Else1 Inv-loop μ-loop
+to-first-some c = c .before .before
+
+abbrev to-first-start : tie.After-render-field-arg Inv-loop μ-loop → tie.Start Inv-loop μ-loop
+to-first-start c = some-start (to-first-some c)
+
+abbrev first-lent : tie.After-render-field Inv-loop μ-loop → tie.After-render-field-arg Inv-loop μ-loop
+first-lent c = c .before
+
+abbrev first-some : tie.After-render-field Inv-loop μ-loop → tie.Else1 Inv-loop μ-loop
+first-some c = to-first-some (first-lent c)
+
+abbrev back-first : tie.After-slice-known2 Inv-loop μ-loop → tie.After-render-field Inv-loop μ-loop
+back-first c = c .before .before
+
+abbrev first-back-some : tie.After-slice-known2 Inv-loop μ-loop → tie.Else1 Inv-loop μ-loop
+first-back-some c = first-some (back-first c)
+
+abbrev first-back-start : tie.After-slice-known2 Inv-loop μ-loop → tie.Start Inv-loop μ-loop
+first-back-start c = some-start (first-back-some c)
+
+-- the others
+abbrev loop-back : tie.At-loop Inv-loop μ-loop → tie.After-slice-known2 Inv-loop μ-loop
+loop-back c = c .before
+
+abbrev loop-first : tie.At-loop Inv-loop μ-loop → tie.After-render-field Inv-loop μ-loop
+loop-first c = back-first (loop-back c)
+
+abbrev turn-loop : tie.In-loop Inv-loop μ-loop → tie.At-loop Inv-loop μ-loop
+turn-loop c = c .before
+
+abbrev to-field-turn : tie.After-render-field-arg2 Inv-loop μ-loop → tie.In-loop Inv-loop μ-loop
+to-field-turn c = c .before .before
+
+abbrev to-field-loop : tie.After-render-field-arg2 Inv-loop μ-loop → tie.At-loop Inv-loop μ-loop
+to-field-loop c = turn-loop (to-field-turn c)
+
+abbrev field-lent : tie.After-render-field2 Inv-loop μ-loop → tie.After-render-field-arg2 Inv-loop μ-loop
+field-lent c = c .before
+
+abbrev back-field : tie.After-slice-known3 Inv-loop μ-loop → tie.After-render-field2 Inv-loop μ-loop
+back-field c = c .before .before
+
+abbrev field-back-turn : tie.After-slice-known3 Inv-loop μ-loop → tie.In-loop Inv-loop μ-loop
+field-back-turn c = to-field-turn (field-lent (back-field c))
+
+abbrev field-back-loop : tie.After-slice-known3 Inv-loop μ-loop → tie.At-loop Inv-loop μ-loop
+field-back-loop c = turn-loop (field-back-turn c)
+
+abbrev done-loop : tie.After-loop Inv-loop μ-loop → tie.At-loop Inv-loop μ-loop
+done-loop c = c .before
+
+abbrev done-first : tie.After-loop Inv-loop μ-loop → tie.After-render-field Inv-loop μ-loop
+done-first c = loop-first (done-loop c)
+
+abbrev done-some : tie.After-loop Inv-loop μ-loop → tie.Else1 Inv-loop μ-loop
+done-some c = first-some (done-first c)
+
+abbrev done-start : tie.After-loop Inv-loop μ-loop → tie.Start Inv-loop μ-loop
+done-start c = some-start (done-some c)
+
 slice-write-out : tie.Need-slice-write-out Inv-loop μ-loop
-slice-write-out c = first-room (c .before .before .before .args .out .now) _ _ _ _ (fields-none _ (c .if1 .taken)) (c .before .before .before .pre)
+slice-write-out c = first-room (empty-start c .args .out .now) _ _ _ _ (fields-none _ (c .if1 .taken)) (empty-start c .pre)
 
 add-result : tie.Need-add-result Inv-loop μ-loop
-add-result c = let l = first-room (c .before .before .before .args .out .now) _ _ _ _ (fields-none _ (c .if1 .taken)) (c .before .before .before .pre) in search needs
+add-result c = let l = first-room (empty-start c .args .out .now) _ _ _ _ (fields-none _ (c .if1 .taken)) (empty-start c .pre) in search needs
 
 same-length : tie.Need-same-length Inv-loop μ-loop
 same-length c = search needs
 
 returns : tie.Need-returns Inv-loop μ-loop
-returns c = written-rest (c .before .before .before .args .out .now) _ _ _ _ (fields-none (c .before .before .before .args .fields .now) (c .if1 .taken)) (c .before .before .before .pre) (written-none _ _)
+returns c =
+    let s = empty-start c in
+    written-rest (s .args .out .now) _ _ _ _ (fields-none (s .args .fields .now) (c .if1 .taken)) (s .pre) (written-none _ _)
 
 shared-slice-read-render-field : tie.Need-shared-slice-read-render-field Inv-loop μ-loop
 shared-slice-read-render-field c = search needs
 
 render-field-requires : tie.Need-render-field-requires Inv-loop μ-loop
-render-field-requires c κs = begin-room (c .before .before .before .before .before .args .fields .now) (c .before .before .before .before .before .args .out .now) _ (c .before .before .if1 .left) (c .before .before .before .before .before .pre)
+render-field-requires c κs =
+    let s = to-first-start c in
+    begin-room (s .args .fields .now) (s .args .out .now) _ (to-first-some c .if1 .left) (s .pre)
 
 loop-holds : tie.Need-loop-holds Inv-loop μ-loop
-loop-holds c = more-begin _ _ _ (c .before .before .before .before .before .if1 .left) (c .before .before .before .before .before .before .before .before .pre) _ _ (c .before .before .render-field .ensures)
+loop-holds c = more-begin _ _ _ (first-back-some c .if1 .left) (first-back-start c .pre) _ _ (back-first c .render-field .ensures)
 
 slice-write-out-2 : tie.Need-slice-write-out-2 Inv-loop μ-loop
-slice-write-out-2 c = comma-room (c .before .loop .inv) (c .loop-test .taken)
+slice-write-out-2 c = comma-room (turn-loop c .loop .inv) (c .loop-test .taken)
 
 mul-render-field : tie.Need-mul-render-field Inv-loop μ-loop
 mul-render-field c = search needs
@@ -45,10 +119,10 @@ shared-slice-read-render-field-2 : tie.Need-shared-slice-read-render-field-2 Inv
 shared-slice-read-render-field-2 c = search needs
 
 add-render-field : tie.Need-add-render-field Inv-loop μ-loop
-add-render-field c = let l = comma-room (c .before .before .before .loop .inv) (c .before .before .loop-test .taken) in search needs
+add-render-field c = let l = comma-room (to-field-loop c .loop .inv) (to-field-turn c .loop-test .taken) in search needs
 
 render-field-requires-2 : tie.Need-render-field-requires-2 Inv-loop μ-loop
-render-field-requires-2 c κs = field-room (c .before .before .before .loop .inv) (c .before .before .loop-test .taken)
+render-field-requires-2 c κs = field-room (to-field-loop c .loop .inv) (to-field-turn c .loop-test .taken)
 
 add-i : tie.Need-add-i Inv-loop μ-loop
 add-i c = search needs
@@ -57,13 +131,18 @@ loop-less : tie.Need-loop-less Inv-loop μ-loop
 loop-less c = search needs
 
 loop-again : tie.Need-loop-again Inv-loop μ-loop
-loop-again c = more-on (c .before .before .before .before .before .before .loop .inv) (c .before .before .before .before .before .loop-test .taken) _ _ (c .before .before .render-field2 .ensures) (c .before .before .render-field2 .kept .1 .0)
+loop-again c =
+    let f = back-field c .render-field2 in
+    more-on (field-back-loop c .loop .inv) (field-back-turn c .loop-test .taken) _ _ (f .ensures) (f .kept .1 .0)
 
 same-length-2 : tie.Need-same-length-2 Inv-loop μ-loop
-same-length-2 c = c .before .loop .inv .same ∙ c .before .before .before .before .render-field .kept .1 .0
+same-length-2 c = done-loop c .loop .inv .same ∙ done-first c .render-field .kept .1 .0
 
 returns-2 : tie.Need-returns-2 Inv-loop μ-loop
-returns-2 c = fields-written (c .before .before .before .before .before .before .before .before .before .before .args .fields .now) _ _ (c .before .before .before .before .before .before .before .if1 .left) (c .before .before .before .before .before .before .before .before .before .before .pre) _ _ (c .before .before .before .before .render-field .ensures) _ _ (more-done (c .before .loop .inv) (c .loop-test .left))
+returns-2 c =
+    let s = done-start c in
+    let more = more-done (done-loop c .loop .inv) (c .loop-test .left) in
+    fields-written (s .args .fields .now) _ _ (done-some c .if1 .left) (s .pre) _ _ (done-first c .render-field .ensures) _ _ more
 
 pub render-fields-spec : {M : Type 1} → statement M
 render-fields-spec =
