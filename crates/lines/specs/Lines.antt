@@ -34,19 +34,23 @@ same [] (b ∷ bs) = false
 same (a ∷ l) [] = false
 same (a ∷ l) (b ∷ bs) = eqb a b && same l bs
 
--- the words of the format
+-- the words of the format: "give"
 abbrev pub giveWord : List ℕ
 giveWord = 103 ∷ 105 ∷ 118 ∷ 101 ∷ []
 
+-- "put"
 abbrev pub putWord : List ℕ
 putWord = 112 ∷ 117 ∷ 116 ∷ []
 
+-- "read"
 abbrev pub readWord : List ℕ
 readWord = 114 ∷ 101 ∷ 97 ∷ 100 ∷ []
 
+-- "take"
 abbrev pub takeWord : List ℕ
 takeWord = 116 ∷ 97 ∷ 107 ∷ 101 ∷ []
 
+-- "-"
 abbrev pub dash : List ℕ
 dash = 45 ∷ []
 

@@ -17,6 +17,28 @@ Inv-loop line n₀ i₀ n i = (i ≤ length line) × (n ≤ i) × (n + lines.bla
 abbrev μ-loop : tie.MeasureT-loop
 μ-loop line n₀ i₀ n i = length line - i
 
+-- the places of the walk, each by its way to the place before it: `a-b` goes from `a` back to `b`
+abbrev loop-start : tie.At-loop Inv-loop μ-loop → tie.Start Inv-loop μ-loop
+loop-start c = c .before
+
+abbrev turn-loop : tie.In-loop Inv-loop μ-loop → tie.At-loop Inv-loop μ-loop
+turn-loop c = c .before
+
+abbrev counted-turn : tie.Joined1 Inv-loop μ-loop → tie.In-loop Inv-loop μ-loop
+counted-turn c = c .before .before
+
+abbrev counted-loop : tie.Joined1 Inv-loop μ-loop → tie.At-loop Inv-loop μ-loop
+counted-loop c = turn-loop (counted-turn c)
+
+abbrev counted-start : tie.Joined1 Inv-loop μ-loop → tie.Start Inv-loop μ-loop
+counted-start c = loop-start (counted-loop c)
+
+abbrev done-loop : tie.After-loop Inv-loop μ-loop → tie.At-loop Inv-loop μ-loop
+done-loop c = c .before
+
+abbrev done-start : tie.After-loop Inv-loop μ-loop → tie.Start Inv-loop μ-loop
+done-start c = loop-start (done-loop c)
+
 loop-holds : tie.Need-loop-holds Inv-loop μ-loop
 loop-holds c = search needs
 
@@ -34,16 +56,16 @@ loop-less c = search needs
 
 loop-again : tie.Need-loop-again Inv-loop μ-loop
 loop-again c =
-    let line : List ℕ = c .before .before .before .before .args .line .now in
-    let i : ℕ = c .before .before .before .loop .i in
-    let l = c .before .before .loop-test .taken in
+    let line : List ℕ = counted-start c .args .line .now in
+    let i : ℕ = counted-loop c .loop .i in
+    let l = counted-turn c .loop-test .taken in
     ⊎-elim
     (λ w. (search needs, search needs, omega (arith, blank-counted line i l (w .0 .taken))))
     (λ w. (search needs, search needs, omega (arith, other-passed line i l (w .0 .left))))
     (c .if1 .came)
 
 returns : tie.Need-returns Inv-loop μ-loop
-returns c = omega (arith, no-more-blanks (c .before .before .args .line .now) (c .before .loop .i) (c .loop-test .left))
+returns c = omega (arith, no-more-blanks (done-start c .args .line .now) (done-loop c .loop .i) (c .loop-test .left))
 
 pub blanks-spec : {M : Type 1} → statement M
 blanks-spec = tie.close (tie.spec Inv-loop μ-loop loop-holds shared-slice-read-if1 add-n add-i loop-less loop-again returns)

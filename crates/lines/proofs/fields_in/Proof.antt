@@ -4,6 +4,16 @@ use borrow.Author.Needs.{needs}
 use Rattle.lines.proofs.fields_in.Statement.{statement}
 use Rattle.lines.proofs.fields_in.Tie as tie
 
+-- the places of the walk, each by its way to the place before it: `a-b` goes from `a` back to `b`
+abbrev fields-item : tie.After-read-fields → tie.After-item
+fields-item c = c .before .before .before
+
+abbrev back-fields : tie.After-slice-known2 → tie.After-read-fields
+back-fields c = c .before .before
+
+abbrev fields-back-item : tie.After-slice-known2 → tie.After-item
+fields-back-item c = fields-item (back-fields c)
+
 item-requires : tie.Need-item-requires
 item-requires c κs = search needs
 
@@ -24,7 +34,7 @@ same-length c = search needs
 
 returns : tie.Need-returns
 returns c =
-    rw (c .before .before .read-fields .ensures .1, ← (c .before .before .before .before .before .item .ensures .is)) (fields-read _ _ _ (c .before .before .read-fields .ensures .0))
+    rw (back-fields c .read-fields .ensures .1, ← (fields-back-item c .item .ensures .is)) (fields-read _ _ _ (back-fields c .read-fields .ensures .0))
 
 pub fields-in-spec : {M : Type 1} → statement M
 fields-in-spec =

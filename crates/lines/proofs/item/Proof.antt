@@ -16,6 +16,49 @@ Inv-loop line i before₀ start₀ at₀ before start at =
 abbrev μ-loop : tie.MeasureT-loop
 μ-loop line i before₀ start₀ at₀ before start at = length line - at
 
+-- the places of the walk, each by its way to the place before it: `a-b` goes from `a` back to `b`
+abbrev loop-start : tie.At-loop Inv-loop μ-loop → tie.Start Inv-loop μ-loop
+loop-start c = c .before
+
+abbrev turn-loop : tie.In-loop Inv-loop μ-loop → tie.At-loop Inv-loop μ-loop
+turn-loop c = c .before
+
+abbrev blank-turn : tie.Then1 Inv-loop μ-loop → tie.In-loop Inv-loop μ-loop
+blank-turn c = c .before .before
+
+abbrev ended-blank : tie.Then2 Inv-loop μ-loop → tie.Then1 Inv-loop μ-loop
+ended-blank c = c .before
+
+abbrev ended-turn : tie.Then2 Inv-loop μ-loop → tie.In-loop Inv-loop μ-loop
+ended-turn c = blank-turn (ended-blank c)
+
+abbrev ended-loop : tie.Then2 Inv-loop μ-loop → tie.At-loop Inv-loop μ-loop
+ended-loop c = turn-loop (ended-turn c)
+
+abbrev next-turn : tie.Joined1 Inv-loop μ-loop → tie.In-loop Inv-loop μ-loop
+next-turn c = c .before .before
+
+abbrev next-loop : tie.Joined1 Inv-loop μ-loop → tie.At-loop Inv-loop μ-loop
+next-loop c = turn-loop (next-turn c)
+
+abbrev end-loop : tie.After-loop Inv-loop μ-loop → tie.At-loop Inv-loop μ-loop
+end-loop c = c .before
+
+abbrev last-end : tie.Then3 Inv-loop μ-loop → tie.After-loop Inv-loop μ-loop
+last-end c = c .before
+
+abbrev last-loop : tie.Then3 Inv-loop μ-loop → tie.At-loop Inv-loop μ-loop
+last-loop c = end-loop (last-end c)
+
+abbrev past-end : tie.Else3 Inv-loop μ-loop → tie.After-loop Inv-loop μ-loop
+past-end c = c .before
+
+abbrev past-loop : tie.Else3 Inv-loop μ-loop → tie.At-loop Inv-loop μ-loop
+past-loop c = end-loop (past-end c)
+
+abbrev past-start : tie.Else3 Inv-loop μ-loop → tie.Start Inv-loop μ-loop
+past-start c = loop-start (past-loop c)
+
 loop-holds : tie.Need-loop-holds Inv-loop μ-loop
 loop-holds c = (search needs, search needs, search needs, from-start _ _)
 
@@ -27,7 +70,7 @@ returns c =
     record {
       low = search needs;
       high = search needs;
-      is = sym (c .before .before .before .before .loop .inv .3 ∙ at-its-end _ _ _ _ (c .if2 .taken) (c .before .before .before .loop-test .taken) (c .before .if1 .taken));
+      is = sym (ended-loop c .loop .inv .3 ∙ at-its-end _ _ _ _ (c .if2 .taken) (ended-turn c .loop-test .taken) (ended-blank c .if1 .taken));
     }
 
 sub-before : tie.Need-sub-before Inv-loop μ-loop
@@ -44,8 +87,8 @@ loop-less c = search needs
 
 loop-again : tie.Need-loop-again Inv-loop μ-loop
 loop-again c =
-    let l = c .before .before .loop-test .taken in
-    let e = c .before .before .before .loop .inv .3 in
+    let l = next-turn c .loop-test .taken in
+    let e = next-loop c .loop .inv .3 in
     ⊎-elim
     (λ w. rw (w .2, w .3) (search needs, search needs, search needs, e ∙ at-blank _ _ _ _ l (w .0 .taken) (w .1 .left)))
     (λ w. rw (w .1, w .2) (search needs, search needs, search needs, e ∙ at-other _ _ _ _ (search needs) l (w .0 .left)))
@@ -56,7 +99,7 @@ returns-2 c =
     record {
       low = search needs;
       high = search needs;
-      is = sym (c .before .before .loop .inv .3 ∙ at-line-end _ _ _ _ (c .if3 .taken) (c .before .loop-test .left));
+      is = sym (last-loop c .loop .inv .3 ∙ at-line-end _ _ _ _ (c .if3 .taken) (last-end c .loop-test .left));
     }
 
 returns-3 : tie.Need-returns-3 Inv-loop μ-loop
@@ -64,7 +107,9 @@ returns-3 c =
     record {
       low = search needs;
       high = search needs;
-      is = between-none (c .before .before .before .args .line .now) (c .before .before .loop .at) ∙ sym (c .before .before .loop .inv .3 ∙ missing _ _ _ _ (c .if3 .left) (c .before .loop-test .left));
+      is =
+          between-none (past-start c .args .line .now) (past-loop c .loop .at)
+          ∙ sym (past-loop c .loop .inv .3 ∙ missing _ _ _ _ (c .if3 .left) (past-end c .loop-test .left));
     }
 
 pub item-spec : {M : Type 1} → statement M

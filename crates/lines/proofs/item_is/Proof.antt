@@ -7,6 +7,16 @@ use borrow.Author.Needs.{needs}
 use Rattle.lines.proofs.item_is.Statement.{statement}
 use Rattle.lines.proofs.item_is.Tie as tie
 
+-- the places of the walk, each by its way to the place before it: `a-b` goes from `a` back to `b`
+abbrev item-start : tie.After-item → tie.Start
+item-start c = c .before .before .before
+
+abbrev same-item : tie.After-same → tie.After-item
+same-item c = c .before .before
+
+abbrev same-start : tie.After-same → tie.Start
+same-start c = item-start (same-item c)
+
 item-requires : tie.Need-item-requires
 item-requires c κs = search needs
 
@@ -23,7 +33,7 @@ same-requires : tie.Need-same-requires
 same-requires c κs = search needs
 
 returns : tie.Need-returns
-returns c = c .same .ensures ∙ ap (λ (t : List ℕ). same t (c .before .before .before .before .before .args .word .now)) (c .before .before .item .ensures .is)
+returns c = c .same .ensures ∙ ap (λ (t : List ℕ). same t (same-start c .args .word .now)) (same-item c .item .ensures .is)
 
 pub item-is-spec : {M : Type 1} → statement M
 item-is-spec =

@@ -14,19 +14,117 @@ use borrow.Author.Needs.{needs}
 use Rattle.lines.proofs.read_put.Statement.{statement}
 use Rattle.lines.proofs.read_put.Tie as tie
 
-party : (c : tie.After-who) → unsigned (item 1 (c .before .before .before .before .before .args .line .now)) ≡ some (c .who .given .0 .0)
-party c = readable _ _ (sym (c .who .given .1) ∙ c .before .before .number-in .ensures)
+-- the places of the walk, each by its way to the place before it: `a-b` goes from `a` back to `b`
+abbrev number-start : tie.After-number-in → tie.Start
+number-start c = c .before .before .before
 
-read-pair : (c : tie.After-rpart) → readPair 2 (c .before .before .before .before .before .before .before .before .before .args .line .now) ≡ some (pair (c .rpart .given .0 .0) (c .rpart .given .0 .1 .0))
-read-pair c = sym (c .before .before .pair-in .ensures) ∙ ap meantPair (c .rpart .given .1)
+abbrev who-number : tie.After-who → tie.After-number-in
+who-number c = c .before .before
 
-take-pair : (c : tie.After-tpart) → readPair 4 (c .before .before .before .before .before .before .before .before .before .before .before .before .before .args .line .now) ≡ some (pair (c .tpart .given .0 .0) (c .tpart .given .0 .1 .0))
-take-pair c = sym (c .before .before .pair-in2 .ensures) ∙ ap meantPair (c .tpart .given .1)
+abbrev who-start : tie.After-who → tie.Start
+who-start c = number-start (who-number c)
 
-read-key : (c : tie.After-known-told2) → toZ w32 (ofZ w32 (c .before .rpart .given .0 .1 .0)) ≡ (c .before .rpart .given .0 .1 .0)
+abbrev read-in-who : tie.After-pair-in → tie.After-who
+read-in-who c = c .before .before
+
+abbrev read-pair-read-in : tie.After-rpart → tie.After-pair-in
+read-pair-read-in c = c .before .before
+
+abbrev read-pair-start : tie.After-rpart → tie.Start
+read-pair-start c = who-start (read-in-who (read-pair-read-in c))
+
+abbrev read-told-read-pair : tie.After-known-told2 → tie.After-rpart
+read-told-read-pair c = c .before
+
+abbrev take-in-read-told : tie.After-pair-in2 → tie.After-known-told2
+take-in-read-told c = c .before
+
+abbrev take-pair-take-in : tie.After-tpart → tie.After-pair-in2
+take-pair-take-in c = c .before .before
+
+abbrev take-pair-start : tie.After-tpart → tie.Start
+take-pair-start c = read-pair-start (read-told-read-pair (take-in-read-told (take-pair-take-in c)))
+
+abbrev take-told-take-pair : tie.After-known-told3 → tie.After-tpart
+take-told-take-pair c = c .before
+
+abbrev fields-take-told : tie.After-fields-in → tie.After-known-told3
+fields-take-told c = c .before .before
+
+abbrev back-fields : tie.After-slice-known2 → tie.After-fields-in
+back-fields c = c .before .before
+
+abbrev count-back : tie.After-n → tie.After-slice-known2
+count-back c = c .before .before
+
+abbrev told-count : tie.After-known-told4 → tie.After-n
+told-count c = c .before
+
+abbrev told-fields : tie.After-known-told4 → tie.After-fields-in
+told-fields c = back-fields (count-back (told-count c))
+
+abbrev told-take-told : tie.After-known-told4 → tie.After-known-told3
+told-take-told c = fields-take-told (told-fields c)
+
+abbrev told-take-pair : tie.After-known-told4 → tie.After-tpart
+told-take-pair c = take-told-take-pair (told-take-told c)
+
+abbrev told-read-told : tie.After-known-told4 → tie.After-known-told2
+told-read-told c = take-in-read-told (take-pair-take-in (told-take-pair c))
+
+abbrev told-read-pair : tie.After-known-told4 → tie.After-rpart
+told-read-pair c = read-told-read-pair (told-read-told c)
+
+abbrev told-who : tie.After-known-told4 → tie.After-who
+told-who c = read-in-who (read-pair-read-in (told-read-pair c))
+
+-- left at the fields, the take pair, the read pair, the party
+abbrev no-fields-back : tie.After-enum-told4 → tie.After-slice-known2
+no-fields-back c = c .before .before
+
+abbrev no-fields-fields : tie.After-enum-told4 → tie.After-fields-in
+no-fields-fields c = back-fields (no-fields-back c)
+
+abbrev no-fields-take-pair : tie.After-enum-told4 → tie.After-tpart
+no-fields-take-pair c = take-told-take-pair (fields-take-told (no-fields-fields c))
+
+abbrev no-fields-read-pair : tie.After-enum-told4 → tie.After-rpart
+no-fields-read-pair c = read-told-read-pair (take-in-read-told (take-pair-take-in (no-fields-take-pair c)))
+
+abbrev no-fields-who : tie.After-enum-told4 → tie.After-who
+no-fields-who c = read-in-who (read-pair-read-in (no-fields-read-pair c))
+
+abbrev no-take-pair-take-in : tie.After-enum-told3 → tie.After-pair-in2
+no-take-pair-take-in c = c .before .before
+
+abbrev no-take-pair-read-pair : tie.After-enum-told3 → tie.After-rpart
+no-take-pair-read-pair c = read-told-read-pair (take-in-read-told (no-take-pair-take-in c))
+
+abbrev no-take-pair-who : tie.After-enum-told3 → tie.After-who
+no-take-pair-who c = read-in-who (read-pair-read-in (no-take-pair-read-pair c))
+
+abbrev no-read-pair-read-in : tie.After-enum-told2 → tie.After-pair-in
+no-read-pair-read-in c = c .before .before
+
+abbrev no-read-pair-who : tie.After-enum-told2 → tie.After-who
+no-read-pair-who c = read-in-who (no-read-pair-read-in c)
+
+abbrev no-party-number : tie.After-enum-told → tie.After-number-in
+no-party-number c = c .before .before
+
+party : (c : tie.After-who) → unsigned (item 1 (who-start c .args .line .now)) ≡ some (c .who .given .0 .0)
+party c = readable _ _ (sym (c .who .given .1) ∙ who-number c .number-in .ensures)
+
+read-pair : (c : tie.After-rpart) → readPair 2 (read-pair-start c .args .line .now) ≡ some (pair (c .rpart .given .0 .0) (c .rpart .given .0 .1 .0))
+read-pair c = sym (read-pair-read-in c .pair-in .ensures) ∙ ap meantPair (c .rpart .given .1)
+
+take-pair : (c : tie.After-tpart) → readPair 4 (take-pair-start c .args .line .now) ≡ some (pair (c .tpart .given .0 .0) (c .tpart .given .0 .1 .0))
+take-pair c = sym (take-pair-take-in c .pair-in2 .ensures) ∙ ap meantPair (c .tpart .given .1)
+
+read-key : (c : tie.After-known-told2) → toZ w32 (ofZ w32 (read-told-read-pair c .rpart .given .0 .1 .0)) ≡ (read-told-read-pair c .rpart .given .0 .1 .0)
 read-key c = toZ-ofZ (record { sfits = c .known-told2 .given .1 .0 .1 })
 
-take-key : (c : tie.After-known-told3) → toZ w32 (ofZ w32 (c .before .tpart .given .0 .1 .0)) ≡ (c .before .tpart .given .0 .1 .0)
+take-key : (c : tie.After-known-told3) → toZ w32 (ofZ w32 (take-told-take-pair c .tpart .given .0 .1 .0)) ≡ (take-told-take-pair c .tpart .given .0 .1 .0)
 take-key c = toZ-ofZ (record { sfits = c .known-told3 .given .1 .0 .1 })
 
 number-in-requires : tie.Need-number-in-requires
@@ -39,7 +137,7 @@ enum-told : tie.Need-enum-told
 enum-told c = search needs
 
 returns : tie.Need-returns
-returns c = unread (put-by _ (unreadable _ (sym (c .enum-told .given .1) ∙ c .before .before .number-in .ensures)) refl refl refl)
+returns c = unread (put-by _ (unreadable _ (sym (c .enum-told .given .1) ∙ no-party-number c .number-in .ensures)) refl refl refl)
 
 pair-in-requires : tie.Need-pair-in-requires
 pair-in-requires c κs = search needs
@@ -51,7 +149,9 @@ enum-told-2 : tie.Need-enum-told-2
 enum-told-2 c = search needs
 
 returns-2 : tie.Need-returns-2
-returns-2 c = unread (put-by _ (party (c .before .before .before .before)) (sym (c .before .before .pair-in .ensures) ∙ ap meantPair (c .enum-told2 .given .1)) refl refl)
+returns-2 c =
+    let r = sym (no-read-pair-read-in c .pair-in .ensures) ∙ ap meantPair (c .enum-told2 .given .1) in
+    unread (put-by _ (party (no-read-pair-who c)) r refl refl)
 
 pair-in-requires-2 : tie.Need-pair-in-requires-2
 pair-in-requires-2 c κs = search needs
@@ -64,7 +164,8 @@ enum-told-3 c = search needs
 
 returns-3 : tie.Need-returns-3
 returns-3 c =
-    unread (put-by _ (party (c .before .before .before .before .before .before .before .before)) (read-pair (c .before .before .before .before)) (sym (c .before .before .pair-in2 .ensures) ∙ ap meantPair (c .enum-told3 .given .1)) refl)
+    let t = sym (no-take-pair-take-in c .pair-in2 .ensures) ∙ ap meantPair (c .enum-told3 .given .1) in
+    unread (put-by _ (party (no-take-pair-who c)) (read-pair (no-take-pair-read-pair c)) t refl)
 
 fields-in-requires : tie.Need-fields-in-requires
 fields-in-requires c κs = search needs
@@ -79,19 +180,19 @@ same-length : tie.Need-same-length
 same-length c = search needs
 
 returns-4 : tie.Need-returns-4
-returns-4 c = unread (put-by _ (party (c .before .before .before .before .before .before .before .before .before .before .before .before .before .before .before)) (read-pair (c .before .before .before .before .before .before .before .before .before .before .before)) (take-pair (c .before .before .before .before .before .before .before)) (no-fields _ _ _ (c .before .before .before .before .fields-in .ensures) (c .enum-told4 .given .1)))
+returns-4 c =
+    let f = no-fields _ _ _ (no-fields-fields c .fields-in .ensures) (c .enum-told4 .given .1) in
+    unread (put-by _ (party (no-fields-who c)) (read-pair (no-fields-read-pair c)) (take-pair (no-fields-take-pair c)) f)
 
 same-length-2 : tie.Need-same-length-2
 same-length-2 c = search needs
 
 returns-5 : tie.Need-returns-5
 returns-5 c =
-    let f = c .before .before .before .before .before .fields-in .ensures in
-    let n = c .before .n .given .1 in
-    record {
-      is = rw (read-key (c .before .before .before .before .before .before .before .before .before .before .before), take-key (c .before .before .before .before .before .before .before)) (sym (put-by _ (party (c .before .before .before .before .before .before .before .before .before .before .before .before .before .before .before .before)) (read-pair (c .before .before .before .before .before .before .before .before .before .before .before .before)) (take-pair (c .before .before .before .before .before .before .before .before)) (some-fields _ _ _ f _ n)));
-      inRange = few-fields _ _ _ f _ n;
-    }
+    let f = told-fields c .fields-in .ensures in
+    let n = told-count c .n .given .1 in
+    let read = put-by _ (party (told-who c)) (read-pair (told-read-pair c)) (take-pair (told-take-pair c)) (some-fields _ _ _ f _ n) in
+    record { is = rw (read-key (told-read-told c), take-key (told-take-told c)) (sym read); inRange = few-fields _ _ _ f _ n }
 
 pub read-put-spec : {M : Type 1} → statement M
 read-put-spec =

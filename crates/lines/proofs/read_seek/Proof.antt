@@ -16,23 +16,116 @@ use borrow.Author.Needs.{needs}
 use Rattle.lines.proofs.read_seek.Statement.{statement}
 use Rattle.lines.proofs.read_seek.Tie as tie
 
-no-take-pair : (c : tie.Else1) → noTakePair (c .before .before .before .before .args .line .now) ≡ true
-no-take-pair c = sym (c .before .no-take-pair .ensures) ∙ not-false _ (c .if1 .left)
+-- the places of the walk, each by its way to the place before it: `a-b` goes from `a` back to `b`
+abbrev pair-start : tie.After-no-take-pair → tie.Start
+pair-start c = c .before .before .before
 
-party : (c : tie.After-who) → unsigned (item 1 (c .before .before .before .before .before .before .before .args .line .now)) ≡ some (c .who .given .0 .0)
-party c = readable _ _ (sym (c .who .given .1) ∙ c .before .before .number-in .ensures)
+abbrev ill-pair : tie.Then1 → tie.After-no-take-pair
+ill-pair c = c .before
 
-pair-read : (c : tie.After-partition) → readPair 2 (c .before .before .before .before .before .before .before .before .before .before .before .args .line .now) ≡ some (pair (c .partition .given .0 .0) (c .partition .given .0 .1 .0))
-pair-read c = sym (c .before .before .pair-in .ensures) ∙ ap meantPair (c .partition .given .1)
+abbrev well-pair : tie.Else1 → tie.After-no-take-pair
+well-pair c = c .before
 
-key-kept : (c : tie.After-known-told2) → toZ w32 (ofZ w32 (c .before .partition .given .0 .1 .0)) ≡ (c .before .partition .given .0 .1 .0)
+abbrev well-start : tie.Else1 → tie.Start
+well-start c = pair-start (well-pair c)
+
+abbrev number-well : tie.After-number-in → tie.Else1
+number-well c = c .before
+
+abbrev who-number : tie.After-who → tie.After-number-in
+who-number c = c .before .before
+
+abbrev who-start : tie.After-who → tie.Start
+who-start c = well-start (number-well (who-number c))
+
+abbrev pair-in-who : tie.After-pair-in → tie.After-who
+pair-in-who c = c .before .before
+
+abbrev partition-pair-in : tie.After-partition → tie.After-pair-in
+partition-pair-in c = c .before .before
+
+abbrev partition-start : tie.After-partition → tie.Start
+partition-start c = who-start (pair-in-who (partition-pair-in c))
+
+abbrev pair-told-partition : tie.After-known-told2 → tie.After-partition
+pair-told-partition c = c .before
+
+abbrev fields-pair-told : tie.After-fields-in → tie.After-known-told2
+fields-pair-told c = c .before .before
+
+abbrev back-fields : tie.After-slice-known2 → tie.After-fields-in
+back-fields c = c .before .before
+
+abbrev count-back : tie.After-n → tie.After-slice-known2
+count-back c = c .before .before
+
+abbrev told-count : tie.After-known-told3 → tie.After-n
+told-count c = c .before
+
+abbrev told-fields : tie.After-known-told3 → tie.After-fields-in
+told-fields c = back-fields (count-back (told-count c))
+
+abbrev told-pair-told : tie.After-known-told3 → tie.After-known-told2
+told-pair-told c = fields-pair-told (told-fields c)
+
+abbrev told-partition : tie.After-known-told3 → tie.After-partition
+told-partition c = pair-told-partition (told-pair-told c)
+
+abbrev told-who : tie.After-known-told3 → tie.After-who
+told-who c = pair-in-who (partition-pair-in (told-partition c))
+
+abbrev told-well : tie.After-known-told3 → tie.Else1
+told-well c = number-well (who-number (told-who c))
+
+-- left at the fields, the pair, the party
+abbrev no-fields-back : tie.After-enum-told3 → tie.After-slice-known2
+no-fields-back c = c .before .before
+
+abbrev no-fields-fields : tie.After-enum-told3 → tie.After-fields-in
+no-fields-fields c = back-fields (no-fields-back c)
+
+abbrev no-fields-partition : tie.After-enum-told3 → tie.After-partition
+no-fields-partition c = pair-told-partition (fields-pair-told (no-fields-fields c))
+
+abbrev no-fields-who : tie.After-enum-told3 → tie.After-who
+no-fields-who c = pair-in-who (partition-pair-in (no-fields-partition c))
+
+abbrev no-fields-well : tie.After-enum-told3 → tie.Else1
+no-fields-well c = number-well (who-number (no-fields-who c))
+
+abbrev no-pair-pair-in : tie.After-enum-told2 → tie.After-pair-in
+no-pair-pair-in c = c .before .before
+
+abbrev no-pair-who : tie.After-enum-told2 → tie.After-who
+no-pair-who c = pair-in-who (no-pair-pair-in c)
+
+abbrev no-pair-well : tie.After-enum-told2 → tie.Else1
+no-pair-well c = number-well (who-number (no-pair-who c))
+
+abbrev no-party-number : tie.After-enum-told → tie.After-number-in
+no-party-number c = c .before .before
+
+abbrev no-party-well : tie.After-enum-told → tie.Else1
+no-party-well c = number-well (no-party-number c)
+
+no-take-pair : (c : tie.Else1) → noTakePair (well-start c .args .line .now) ≡ true
+no-take-pair c = sym (well-pair c .no-take-pair .ensures) ∙ not-false _ (c .if1 .left)
+
+party : (c : tie.After-who) → unsigned (item 1 (who-start c .args .line .now)) ≡ some (c .who .given .0 .0)
+party c = readable _ _ (sym (c .who .given .1) ∙ who-number c .number-in .ensures)
+
+pair-read : (c : tie.After-partition) → readPair 2 (partition-start c .args .line .now) ≡ some (pair (c .partition .given .0 .0) (c .partition .given .0 .1 .0))
+pair-read c = sym (partition-pair-in c .pair-in .ensures) ∙ ap meantPair (c .partition .given .1)
+
+key-kept : (c : tie.After-known-told2)
+    → toZ w32 (ofZ w32 (pair-told-partition c .partition .given .0 .1 .0)) ≡ (pair-told-partition c .partition .given .0 .1 .0)
 key-kept c = toZ-ofZ (record { sfits = c .known-told2 .given .1 .0 .1 })
 
 no-take-pair-requires : tie.Need-no-take-pair-requires
 no-take-pair-requires c κs = search needs
 
 returns : tie.Need-returns
-returns c = unread (seek-more _ _ (sym (c .before .no-take-pair .ensures) ∙ not-true _ (c .if1 .taken)))
+returns c = unread (seek-more _ _ (sym (ill-pair c .no-take-pair .ensures) ∙ not-true _ (c .if1 .taken)))
 
 number-in-requires : tie.Need-number-in-requires
 number-in-requires c κs = search needs
@@ -44,7 +137,9 @@ enum-told : tie.Need-enum-told
 enum-told c = search needs
 
 returns-2 : tie.Need-returns-2
-returns-2 c = unread (seek-by _ _ (no-take-pair (c .before .before .before)) (unreadable _ (sym (c .enum-told .given .1) ∙ c .before .before .number-in .ensures)) refl refl)
+returns-2 c =
+    let n = unreadable _ (sym (c .enum-told .given .1) ∙ no-party-number c .number-in .ensures) in
+    unread (seek-by _ _ (no-take-pair (no-party-well c)) n refl refl)
 
 pair-in-requires : tie.Need-pair-in-requires
 pair-in-requires c κs = search needs
@@ -57,8 +152,8 @@ enum-told-2 c = search needs
 
 returns-3 : tie.Need-returns-3
 returns-3 c =
-    let p = sym (c .before .before .pair-in .ensures) ∙ ap meantPair (c .enum-told2 .given .1) in
-    unread (seek-by _ _ (no-take-pair (c .before .before .before .before .before .before .before)) (party (c .before .before .before .before)) p refl)
+    let p = sym (no-pair-pair-in c .pair-in .ensures) ∙ ap meantPair (c .enum-told2 .given .1) in
+    unread (seek-by _ _ (no-take-pair (no-pair-well c)) (party (no-pair-who c)) p refl)
 
 fields-in-requires : tie.Need-fields-in-requires
 fields-in-requires c κs = search needs
@@ -73,19 +168,19 @@ same-length : tie.Need-same-length
 same-length c = search needs
 
 returns-4 : tie.Need-returns-4
-returns-4 c = unread (seek-by _ _ (no-take-pair (c .before .before .before .before .before .before .before .before .before .before .before .before .before .before)) (party (c .before .before .before .before .before .before .before .before .before .before .before)) (pair-read (c .before .before .before .before .before .before .before)) (no-fields _ _ _ (c .before .before .before .before .fields-in .ensures) (c .enum-told3 .given .1)))
+returns-4 c =
+    let f = no-fields _ _ _ (no-fields-fields c .fields-in .ensures) (c .enum-told3 .given .1) in
+    unread (seek-by _ _ (no-take-pair (no-fields-well c)) (party (no-fields-who c)) (pair-read (no-fields-partition c)) f)
 
 same-length-2 : tie.Need-same-length-2
 same-length-2 c = search needs
 
 returns-5 : tie.Need-returns-5
 returns-5 c =
-    let f = c .before .before .before .before .before .fields-in .ensures in
-    let n = c .before .n .given .1 in
-    record {
-      is = rw (key-kept (c .before .before .before .before .before .before .before)) (sym (seek-by _ _ (no-take-pair (c .before .before .before .before .before .before .before .before .before .before .before .before .before .before .before)) (party (c .before .before .before .before .before .before .before .before .before .before .before .before)) (pair-read (c .before .before .before .before .before .before .before .before)) (some-fields _ _ _ f _ n)));
-      inRange = few-fields _ _ _ f _ n;
-    }
+    let f = told-fields c .fields-in .ensures in
+    let n = told-count c .n .given .1 in
+    let read = seek-by _ _ (no-take-pair (told-well c)) (party (told-who c)) (pair-read (told-partition c)) (some-fields _ _ _ f _ n) in
+    record { is = rw (key-kept (told-pair-told c)) (sym read); inRange = few-fields _ _ _ f _ n }
 
 pub read-seek-spec : {M : Type 1} → statement M
 read-seek-spec =

@@ -14,8 +14,39 @@ Inv-loop a b i₀ i = (i ≤ length a) × (lines.same a b ≡ lines.same (drop i
 abbrev μ-loop : tie.MeasureT-loop
 μ-loop a b i₀ i = length a - i
 
+-- the places of the walk, each by its way to the place before it: `a-b` goes from `a` back to `b`
+abbrev unequal-start : tie.Then1 Inv-loop μ-loop → tie.Start Inv-loop μ-loop
+unequal-start c = c .before
+
+abbrev loop-start : tie.At-loop Inv-loop μ-loop → tie.Start Inv-loop μ-loop
+loop-start c = c .before .before
+
+abbrev turn-loop : tie.In-loop Inv-loop μ-loop → tie.At-loop Inv-loop μ-loop
+turn-loop c = c .before
+
+abbrev differ-turn : tie.Then2 Inv-loop μ-loop → tie.In-loop Inv-loop μ-loop
+differ-turn c = c .before .before .before
+
+abbrev differ-loop : tie.Then2 Inv-loop μ-loop → tie.At-loop Inv-loop μ-loop
+differ-loop c = turn-loop (differ-turn c)
+
+abbrev differ-start : tie.Then2 Inv-loop μ-loop → tie.Start Inv-loop μ-loop
+differ-start c = loop-start (differ-loop c)
+
+abbrev agree-turn : tie.Else2 Inv-loop μ-loop → tie.In-loop Inv-loop μ-loop
+agree-turn c = c .before .before .before
+
+abbrev agree-loop : tie.Else2 Inv-loop μ-loop → tie.At-loop Inv-loop μ-loop
+agree-loop c = turn-loop (agree-turn c)
+
+abbrev agree-start : tie.Else2 Inv-loop μ-loop → tie.Start Inv-loop μ-loop
+agree-start c = loop-start (agree-loop c)
+
+abbrev done-loop : tie.After-loop Inv-loop μ-loop → tie.At-loop Inv-loop μ-loop
+done-loop c = c .before
+
 returns : tie.Need-returns Inv-loop μ-loop
-returns c = sym (other-length (c .before .args .a .now) (c .before .args .b .now) (c .if1 .taken))
+returns c = sym (other-length (unequal-start c .args .a .now) (unequal-start c .args .b .now) (c .if1 .taken))
 
 loop-holds : tie.Need-loop-holds Inv-loop μ-loop
 loop-holds c = search needs
@@ -27,7 +58,10 @@ shared-slice-read-if2-2 : tie.Need-shared-slice-read-if2-2 Inv-loop μ-loop
 shared-slice-read-if2-2 c = search needs
 
 returns-2 : tie.Need-returns-2 Inv-loop μ-loop
-returns-2 c = sym (c .before .before .before .before .loop .inv .1 ∙ byte-differs (c .before .before .before .before .before .before .args .a .now) (c .before .before .before .before .before .before .args .b .now) (c .before .before .before .before .loop .i) (search needs) (search needs) (c .if2 .taken))
+returns-2 c =
+    let a = differ-start c .args in
+    let l = differ-loop c .loop in
+    sym (l .inv .1 ∙ byte-differs (a .a .now) (a .b .now) (l .i) (search needs) (search needs) (c .if2 .taken))
 
 add-i : tie.Need-add-i Inv-loop μ-loop
 add-i c = search needs
@@ -36,10 +70,13 @@ loop-less : tie.Need-loop-less Inv-loop μ-loop
 loop-less c = search needs
 
 loop-again : tie.Need-loop-again Inv-loop μ-loop
-loop-again c = (search needs, c .before .before .before .before .loop .inv .1 ∙ byte-agrees (c .before .before .before .before .before .before .args .a .now) (c .before .before .before .before .before .before .args .b .now) (c .before .before .before .before .loop .i) (search needs) (search needs) (c .if2 .left))
+loop-again c =
+    let a = agree-start c .args in
+    let l = agree-loop c .loop in
+    (search needs, l .inv .1 ∙ byte-agrees (a .a .now) (a .b .now) (l .i) (search needs) (search needs) (c .if2 .left))
 
 returns-3 : tie.Need-returns-3 Inv-loop μ-loop
-returns-3 c = sym (c .before .loop .inv .1 ∙ none-differs _ _ _ (c .loop-test .left) (search needs))
+returns-3 c = sym (done-loop c .loop .inv .1 ∙ none-differs _ _ _ (c .loop-test .left) (search needs))
 
 pub same-spec : {M : Type 1} → statement M
 same-spec = tie.close (tie.spec Inv-loop μ-loop returns loop-holds shared-slice-read-if2 shared-slice-read-if2-2 returns-2 add-i loop-less loop-again returns-3)
