@@ -4,8 +4,8 @@ use mathlib.Core.Path.{_≡_, ap, _∙_}
 use mathlib.Core.List.{List}
 use native.Mathlib.Omega.{arith}
 use lib.ListN.{length, take, drop, length-append, length-drop, length-take}
-use Rattle.text.specs.Written.{placed}
-use Rattle.session.specs.Steps.{Ready, Turned, printedBy, Onward}
+use Rattle.text.specs.Written.{placed, Written}
+use Rattle.session.specs.Steps.{Ready, printedBy, Onward}
 use Rattle.session.specs.declared.Turn.{Turn}
 use Rattle.session.specs.declared.Turn.the-variants.{Stop, Go}
 
@@ -29,12 +29,12 @@ left (Stop k) n = 0
 left (Go from s k) n = suc (n - from .at)
 
 -- what is printed fits where it was written
-pub printed-fits : (whole out after : List ℕ) (k : ℕ) (more : List ℕ) → Turned whole out after k more → length out ≡ 256 → length after ≡ 256 → k ≤ 256
+pub printed-fits : (text out after : List ℕ) (k : ℕ) → Written out 0 text after k → length out ≡ 256 → length after ≡ 256 → k ≤ 256
 unfolding placed
-printed-fits whole out after k more t l m =
-    let a : length after ≡ length (t .text) + length (drop (0 + length (t .text)) out) = ap length (t .written .bytes) ∙ length-append (t .text) _ in
-    let d = length-drop (0 + length (t .text)) out in
-    omega (arith, t .written .ends)
+printed-fits text out after k w l m =
+    let a : length after ≡ length text + length (drop (0 + length text) out) = ap length (w .bytes) ∙ length-append text _ in
+    let d = length-drop (0 + length text) out in
+    omega (arith, w .ends)
 
 module _ (input : List ℕ) (n : ℕ) (whole : length input ≡ 65537) (few : n ≤ 65536) where
   taken : length (take n input) ≡ n

@@ -18,9 +18,87 @@ Inv-loop input space₀ roster₀ out₀ n turn₀ space roster out turn = Runni
 abbrev μ-loop : tie.MeasureT-loop
 μ-loop input space₀ roster₀ out₀ n turn₀ space roster out turn = left turn n
 
+-- the places of the walk, each by its way to the place before it: `a-b` goes from `a` back to `b`; `to-a` is where the call of `a` begins
+abbrev short-read : tie.Else1 Inv-loop μ-loop → tie.After-read-full Inv-loop μ-loop
+short-read c = c .before .before
+
+abbrev begin-short : tie.After-begin Inv-loop μ-loop → tie.Else1 Inv-loop μ-loop
+begin-short c = c .before .before .before
+
+abbrev begun-begin : tie.After-out2 Inv-loop μ-loop → tie.After-begin Inv-loop μ-loop
+begun-begin c = c .before
+
+abbrev begun-read : tie.After-out2 Inv-loop μ-loop → tie.After-read-full Inv-loop μ-loop
+begun-read c = short-read (begin-short (begun-begin c))
+
+abbrev loop-begun : tie.At-loop Inv-loop μ-loop → tie.After-out2 Inv-loop μ-loop
+loop-begun c = c .before
+
+abbrev loop-read : tie.At-loop Inv-loop μ-loop → tie.After-read-full Inv-loop μ-loop
+loop-read c = begun-read (loop-begun c)
+
+abbrev printed-loop : tie.After-printed Inv-loop μ-loop → tie.At-loop Inv-loop μ-loop
+printed-loop c = c .before
+
+abbrev shown-printed : tie.After-out3 Inv-loop μ-loop → tie.After-printed Inv-loop μ-loop
+shown-printed c = c .before
+
+abbrev shown-loop : tie.After-out3 Inv-loop μ-loop → tie.At-loop Inv-loop μ-loop
+shown-loop c = printed-loop (shown-printed c)
+
+abbrev turn-shown : tie.After-turn Inv-loop μ-loop → tie.After-out3 Inv-loop μ-loop
+turn-shown c = c .before .before .before
+
+abbrev told-turn : tie.After-known-told Inv-loop μ-loop → tie.After-turn Inv-loop μ-loop
+told-turn c = c .before
+
+abbrev told-loop : tie.After-known-told Inv-loop μ-loop → tie.At-loop Inv-loop μ-loop
+told-loop c = shown-loop (turn-shown (told-turn c))
+
+abbrev told-read : tie.After-known-told Inv-loop μ-loop → tie.After-read-full Inv-loop μ-loop
+told-read c = loop-read (told-loop c)
+
+abbrev lent-told : tie.After-roster Inv-loop μ-loop → tie.After-known-told Inv-loop μ-loop
+lent-told c = c .before .before
+
+abbrev to-step-lent : tie.After-out4 Inv-loop μ-loop → tie.After-roster Inv-loop μ-loop
+to-step-lent c = c .before .before
+
+abbrev to-step-told : tie.After-out4 Inv-loop μ-loop → tie.After-known-told Inv-loop μ-loop
+to-step-told c = lent-told (to-step-lent c)
+
+abbrev to-step-loop : tie.After-out4 Inv-loop μ-loop → tie.At-loop Inv-loop μ-loop
+to-step-loop c = told-loop (to-step-told c)
+
+abbrev to-step-read : tie.After-out4 Inv-loop μ-loop → tie.After-read-full Inv-loop μ-loop
+to-step-read c = loop-read (to-step-loop c)
+
+abbrev step-lent : tie.After-take-turn Inv-loop μ-loop → tie.After-out4 Inv-loop μ-loop
+step-lent c = c .before
+
+abbrev again-step : tie.After-out5 Inv-loop μ-loop → tie.After-take-turn Inv-loop μ-loop
+again-step c = c .before .before .before
+
+abbrev again-told : tie.After-out5 Inv-loop μ-loop → tie.After-known-told Inv-loop μ-loop
+again-told c = to-step-told (step-lent (again-step c))
+
+abbrev again-turn : tie.After-out5 Inv-loop μ-loop → tie.After-turn Inv-loop μ-loop
+again-turn c = told-turn (again-told c)
+
+abbrev again-loop : tie.After-out5 Inv-loop μ-loop → tie.At-loop Inv-loop μ-loop
+again-loop c = shown-loop (turn-shown (again-turn c))
+
+abbrev again-read : tie.After-out5 Inv-loop μ-loop → tie.After-read-full Inv-loop μ-loop
+again-read c = loop-read (again-loop c)
+
 -- where the turn goes on
-going : (c : tie.After-known-told Inv-loop μ-loop) → Fine (Go (c .before .turn .given .0 .0) (c .before .turn .given .0 .1 .0) (c .before .turn .given .0 .1 .1 .0)) (c .before .before .before .before .before .before .before .before .before .before .before .before .before .read-full .result) (c .before .before .before .before .before .before .loop .roster) (c .before .before .before .before .before .before .loop .space)
-going c = subst (λ (t : Turn). Fine t (c .before .before .before .before .before .before .before .before .before .before .before .before .before .read-full .result) (c .before .before .before .before .before .before .loop .roster) (c .before .before .before .before .before .before .loop .space)) (c .before .turn .given .1) (c .before .before .before .before .before .before .loop .inv .fine)
+going : (c : tie.After-known-told Inv-loop μ-loop)
+    → Fine (Go (told-turn c .turn .given .0 .0) (told-turn c .turn .given .0 .1 .0) (told-turn c .turn .given .0 .1 .1 .0)) (told-read c .read-full .result)
+    (told-loop c .loop .roster)
+    (told-loop c .loop .space)
+going c =
+    let l = told-loop c .loop in
+    subst (λ (t : Turn). Fine t (told-read c .read-full .result) (l .roster) (l .space)) (told-turn c .turn .given .1) (l .inv .fine)
 
 slice-aggregate-read-full : tie.Need-slice-aggregate-read-full Inv-loop μ-loop
 slice-aggregate-read-full c = search needs
@@ -52,16 +130,18 @@ begin-requires c κs = search needs
 loop-holds : tie.Need-loop-holds Inv-loop μ-loop
 unfolding zeros
 loop-holds c =
-    let small : length (c .before .before .before .before .before .before .read-full .last .1 .0) ≡ 65537 = search needs in
-    let few : c .before .before .before .before .before .before .read-full .result ≤ 65536 = search needs in
+    let r = begun-read c .read-full in
+    let b = begun-begin c .begin in
+    let small : length (r .last .1 .0) ≡ 65537 = search needs in
+    let few : r .result ≤ 65536 = search needs in
     record {
       inputLen = search needs;
       few = search needs;
       spaceLen = search needs;
       rosterLen = search needs;
       outLen = search needs;
-      fits = printed-fits _ _ _ _ _ (c .before .begin .ensures .0) (search needs) (search needs);
-      fine = turn-fine (c .before .before .before .before .before .before .read-full .last .1 .0) _ small few (c .before .begin .result) 0 1 0 (zeros 16) (zeros 1809) (c .before .begin .ensures .1) (omega arith) (omega arith);
+      fits = printed-fits _ _ _ _ (b .ensures .0 .written) (search needs) (search needs);
+      fine = turn-fine (r .last .1 .0) _ small few (b .result) 0 1 0 (zeros 16) (zeros 1809) (b .ensures .1) (omega arith) (omega arith);
     }
 
 printed-requires : tie.Need-printed-requires Inv-loop μ-loop
@@ -71,7 +151,9 @@ array-share-prefix-out : tie.Need-array-share-prefix-out Inv-loop μ-loop
 array-share-prefix-out c = search needs
 
 slice-aggregate-write-all-2 : tie.Need-slice-aggregate-write-all-2 Inv-loop μ-loop
-slice-aggregate-write-all-2 c = sym (length-take-le _ _ (omega (arith, c .before .printed .ensures, c .before .before .loop .inv .fits, c .before .before .loop .inv .outLen)))
+slice-aggregate-write-all-2 c =
+    let i = shown-loop c .loop .inv in
+    sym (length-take-le _ _ (omega (arith, shown-printed c .printed .ensures, i .fits, i .outLen)))
 
 write-all-requires-2 : tie.Need-write-all-requires-2 Inv-loop μ-loop
 write-all-requires-2 c κs = search needs
@@ -102,29 +184,32 @@ slice-aggregate-take-turn-4 c = search needs
 
 take-turn-requires : tie.Need-take-turn-requires Inv-loop μ-loop
 take-turn-requires c κs =
-    let i = c .before .before .before .before .before .before .before .before .before .before .loop .inv in
-    let f = going (c .before .before .before .before) in
-    let l = length-take (c .before .before .before .before .before .before .before .before .before .before .before .before .before .before .before .before .before .read-full .result) (c .before .before .before .before .before .before .before .before .before .before .before .before .before .before .before .before .before .read-full .last .1 .0) in
+    let i = to-step-loop c .loop .inv in
+    let f = going (to-step-told c) in
+    let l = length-take (to-step-read c .read-full .result) (to-step-read c .read-full .last .1 .0) in
     (omega (arith, f .1, i .few, i .inputLen), omega (arith, f .0, f .1, i .few), omega (arith, f .3, f .0, f .1, i .few), f .2, omega (arith, i .outLen))
 
 loop-less : tie.Need-loop-less Inv-loop μ-loop
 loop-less c =
-    let i = c .before .before .before .before .before .before .before .before .before .before .before .before .before .before .loop .inv in
-    subst (λ (t : Turn). left (c .before .before .before .take-turn .result) (c .before .before .before .before .before .before .before .before .before .before .before .before .before .before .before .before .before .before .before .before .before .read-full .result) < left t (c .before .before .before .before .before .before .before .before .before .before .before .before .before .before .before .before .before .before .before .before .before .read-full .result)) (sym (c .before .before .before .before .before .before .before .before .before .turn .given .1))
-    (turn-less (c .before .before .before .before .before .before .before .before .before .before .before .before .before .before .before .before .before .before .before .before .before .read-full .last .1 .0) _ (i .inputLen) (i .few) (c .before .before .before .take-turn .result) _ _ _ _ _ (c .before .before .before .take-turn .ensures .1 .0) (going (c .before .before .before .before .before .before .before .before) .1))
+    let i = again-loop c .loop .inv in
+    let r = again-read c .read-full in
+    let t = again-step c .take-turn in
+    subst (λ (u : Turn). left (t .result) (r .result) < left u (r .result)) (sym (again-turn c .turn .given .1))
+    (turn-less (r .last .1 .0) _ (i .inputLen) (i .few) (t .result) _ _ _ _ _ (t .ensures .1 .0) (going (again-told c) .1))
 
 loop-again : tie.Need-loop-again Inv-loop μ-loop
 loop-again c =
-    let i = c .before .before .before .before .before .before .before .before .before .before .before .before .before .before .loop .inv in
-    let f = going (c .before .before .before .before .before .before .before .before) in
+    let i = again-loop c .loop .inv in
+    let f = going (again-told c) in
+    let t = again-step c .take-turn in
     record {
       inputLen = search needs;
       few = search needs;
       spaceLen = search needs;
       rosterLen = search needs;
       outLen = search needs;
-      fits = printed-fits _ _ _ _ _ (c .before .before .before .take-turn .ensures .0) (i .outLen) (search needs);
-      fine = turn-fine (c .before .before .before .before .before .before .before .before .before .before .before .before .before .before .before .before .before .before .before .before .before .read-full .last .1 .0) _ (i .inputLen) (i .few) (c .before .before .before .take-turn .result) _ _ _ _ _ (c .before .before .before .take-turn .ensures .1 .0) (f .0) (f .3);
+      fits = printed-fits _ _ _ _ (t .ensures .0 .written) (i .outLen) (search needs);
+      fine = turn-fine (again-read c .read-full .last .1 .0) _ (i .inputLen) (i .few) (t .result) _ _ _ _ _ (t .ensures .1 .0) (f .0) (f .3);
     }
 
 pub main-spec : {M : Type 1} → statement M
