@@ -1,4 +1,4 @@
--- The part of the line is its item.
+-- The part of the line that `item` finds is the item asked for, and just this part is read.
 use Rattle.lines.proofs.Readers.{fields-read}
 use borrow.Author.Needs.{needs}
 use Rattle.lines.proofs.fields_in.Statement.{statement}

@@ -1,4 +1,4 @@
--- By whether the item is a number, and by its range.
+-- By whether the item is a number, and by its range; an item that is no number is left out, or unreadable.
 use Prim.Native.Nat.{ℕ}
 use mathlib.Core.Path.{_≡_, sym, _∙_, ap}
 use mathlib.Core.Option.{some}

@@ -1,4 +1,4 @@
--- By whether the item is a number, and by its range.
+-- By whether the item is a number, and by its range; an item that is no number is left out, or unreadable.
 use mathlib.Core.Path.{_≡_, sym, _∙_}
 use mathlib.Core.Option.{some}
 use borrow.Author.Tests.{le-leb, lt-leb}
@@ -55,8 +55,8 @@ left-out-requires c κs = search needs
 returns : tie.Need-returns
 returns c = rw (unreadable _ (sym (left-out-no-number c .enum-told .given .1) ∙ left-out-number c .number-in .ensures)) (c .left-out .ensures)
 
-cast-t6 : tie.Need-cast-t6
-cast-t6 c = search needs
+cast-partition : tie.Need-cast-t6
+cast-partition c = search needs
 
 returns-2 : tie.Need-returns-2
 returns-2 c = rw (partition-read (inside-partition c)) (rw (le-leb _ 63 (c .if1 .taken)))
@@ -73,6 +73,6 @@ partition-gift-spec =
     enum-told
     left-out-requires
     returns
-    cast-t6
+    cast-partition
     returns-2
     returns-3)

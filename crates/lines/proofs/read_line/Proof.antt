@@ -1,4 +1,4 @@
--- By the number of blanks, and by the first item.
+-- By the number of blanks, and by the first item, which decides whose reader reads the line.
 use mathlib.Core.Path.{_≡_, sym, _∙_}
 use mathlib.Core.Bool.{true, false}
 use borrow.Author.Tests.{eq-eqb, ne-eqb}

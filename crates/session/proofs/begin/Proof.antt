@@ -42,9 +42,6 @@ ended-end c = c .before
 abbrev cut-ended : tie.After-same-arg → tie.Else1
 cut-ended c = c .before
 
-abbrev cut-start : tie.After-same-arg → tie.Start
-cut-start c = end-start (ended-end (cut-ended c))
-
 abbrev same-cut : tie.After-same → tie.After-same-arg
 same-cut c = c .before .before
 
@@ -142,8 +139,8 @@ slice-aggregate-place c = search needs
 place-requires : tie.Need-place-requires
 place-requires c κs = search needs
 
-add-t7 : tie.Need-add-t7
-add-t7 c = let l = end-is-high (go-end c) in omega (arith, go-ended c .if1 .left)
+add-at : tie.Need-add-t7
+add-at c = let l = end-is-high (go-end c) in omega (arith, go-ended c .if1 .left)
 
 same-length-3 : tie.Need-same-length-3
 same-length-3 c = search needs
@@ -174,6 +171,6 @@ begin-spec =
     returns-2
     slice-aggregate-place
     place-requires
-    add-t7
+    add-at
     same-length-3
     returns-3)

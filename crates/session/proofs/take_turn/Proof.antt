@@ -266,11 +266,11 @@ returns-3 c =
     let written = subst (λ (o : List ℕ). Written o 0 (unreadable n) (r .last .1 .0) (r .result)) (h .3) (r .ensures) in
     (record { text = unreadable n; adds = adds; written = written }, (tt, (h .1, h .2)))
 
-add-t13 : tie.Need-add-t13
-add-t13 c = let l = end-is-high (go-end c) in omega (arith, go-whole c .if1 .left)
+add-at : tie.Need-add-t13
+add-at c = let l = end-is-high (go-end c) in omega (arith, go-whole c .if1 .left)
 
-add-t32 : tie.Need-add-t32
-add-t32 c = omega (arith, go-start c .pre .1)
+add-number : tie.Need-add-t32
+add-number c = omega (arith, go-start c .pre .1)
 
 same-length-5 : tie.Need-same-length-5
 same-length-5 c = search needs
@@ -313,8 +313,8 @@ take-turn-spec =
     same-length-3
     same-length-4
     returns-3
-    add-t13
-    add-t32
+    add-at
+    add-number
     same-length-5
     same-length-6
     same-length-7

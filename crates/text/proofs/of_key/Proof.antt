@@ -1,4 +1,4 @@
--- By whether there is a key, and whether it is in range.
+-- By whether there is a key, and whether it is in range: the word is then made of the key as it is stored.
 use mathlib.Core.Path.{_≡_, sym, ap, _∙_}
 use native.Mathlib.Omega.{arith}
 use borrow.Author.Needs.{needs}
@@ -73,8 +73,8 @@ returns-2 c = key-out _ _ (outside-key c .key .given .1) (ranged (outside-range 
 stored-key-requires : tie.Need-stored-key-requires
 stored-key-requires c κs = sym (inside-range c .key-in-range .ensures) ∙ not-false _ (c .if1 .left)
 
-add-t6 : tie.Need-add-t6
-add-t6 c =
+add-word : tie.Need-add-t6
+add-word c =
     let h = sym (kept-range c .key-in-range .ensures) ∙ not-false _ (kept-inside c .if1 .left) in
     let l = stored-le (toZ w32 (ofZ w32 (kept-key c .key .given .0 .0))) h in
     omega (arith, c .stored-key .ensures)
@@ -94,5 +94,5 @@ of-key-spec =
     key-in-range-requires
     returns-2
     stored-key-requires
-    add-t6
+    add-word
     returns-3)

@@ -1,4 +1,4 @@
--- By whether there is a value.
+-- By whether there is a value: the word is then made of the kind and the value.
 use mathlib.Core.Path.{sym, ap}
 use borrow.Author.Needs.{needs}
 use Rattle.text.specs.Fields.{ofKind}
@@ -30,14 +30,14 @@ returns : tie.Need-returns
 unfolding wordOf
 returns c = ap (λ (n : Number). wordOf (ofKind (unread-start c .args .kind) (valueIn n))) (sym (c .enum-told .given .1))
 
-mul-t4 : tie.Need-mul-t4
-mul-t4 c = search needs
+mul-kind : tie.Need-mul-t4
+mul-kind c = search needs
 
-cast-t5 : tie.Need-cast-t5
-cast-t5 c = search needs
+cast-value : tie.Need-cast-t5
+cast-value c = search needs
 
-add-t6 : tie.Need-add-t6
-add-t6 c = search needs
+add-word : tie.Need-add-t6
+add-word c = search needs
 
 returns-2 : tie.Need-returns-2
 unfolding wordOf
@@ -45,4 +45,4 @@ returns-2 c = ap (λ (n : Number). wordOf (ofKind (told-start c .args .kind) (va
 
 pub of-kind-spec : {M : Type 1} → statement M
 of-kind-spec =
-    tie.close (tie.spec enum-known-value enum-told returns mul-t4 cast-t5 add-t6 returns-2)
+    tie.close (tie.spec enum-known-value enum-told returns mul-kind cast-value add-word returns-2)

@@ -117,11 +117,11 @@ returns-3 c =
 cast-size : tie.Need-cast-size
 cast-size c = search needs
 
-sub-t15 : tie.Need-sub-t15
-sub-t15 c = negated-fits _ (up-to-le _ _ _ (readable _ _ (sym (negative-value c .v .given .1) ∙ negative-size c .read-up-to .ensures)))
+sub-negated : tie.Need-sub-t15
+sub-negated c = negated-fits _ (up-to-le _ _ _ (readable _ _ (sym (negative-value c .v .given .1) ∙ negative-size c .read-up-to .ensures)))
 
-cast-t16 : tie.Need-cast-t16
-cast-t16 c = held-fits _ (up-to-le _ _ _ (readable _ _ (sym (negative-value c .v .given .1) ∙ negative-size c .read-up-to .ensures)))
+cast-negated : tie.Need-cast-t16
+cast-negated c = held-fits _ (up-to-le _ _ _ (readable _ _ (sym (negative-value c .v .given .1) ∙ negative-size c .read-up-to .ensures)))
 
 returns-4 : tie.Need-returns-4
 unfolding signedOf
@@ -145,8 +145,8 @@ returns-5 c =
     let e = unreadable _ (sym (c .enum-told2 .given .1) ∙ no-number-number c .read-up-to2 .ensures) in
     ap signedOf (sym (signed-plus _ (no-number-some c .if1 .left) (no-number-plain c .if2 .left) ∙ ap positive e))
 
-cast-t18 : tie.Need-cast-t18
-cast-t18 c = record { sfits = omega (arith, up-to-le _ _ _ (readable _ _ (sym (told-read c .v2 .given .1) ∙ told-number c .read-up-to2 .ensures))) }
+cast-number : tie.Need-cast-t18
+cast-number c = record { sfits = omega (arith, up-to-le _ _ _ (readable _ _ (sym (told-read c .v2 .given .1) ∙ told-number c .read-up-to2 .ensures))) }
 
 returns-6 : tie.Need-returns-6
 unfolding signedOf
@@ -172,12 +172,12 @@ read-signed-spec =
     returns-2
     returns-3
     cast-size
-    sub-t15
-    cast-t16
+    sub-negated
+    cast-negated
     returns-4
     read-up-to-requires-2
     enum-known-v-2
     enum-told-2
     returns-5
-    cast-t18
+    cast-number
     returns-6)

@@ -135,8 +135,8 @@ loop-again c =
     let digit = sym (next-digit-digit c .is-digit .ensures) ∙ not-false _ (next-digit-digits c .if2 .left) in
     (search needs, search needs, next-digit-loop c .loop .inv .2 ∙ next _ _ _ _ h digit)
 
-cast-t15 : tie.Need-cast-t15 Inv-loop μ-loop
-cast-t15 c = search needs
+cast-result : tie.Need-cast-t15 Inv-loop μ-loop
+cast-result c = search needs
 
 returns-4 : tie.Need-returns-4 Inv-loop μ-loop
 unfolding numberOf
@@ -162,5 +162,5 @@ read-up-to-spec =
     add-i
     loop-less
     loop-again
-    cast-t15
+    cast-result
     returns-4)
