@@ -49,14 +49,14 @@ shown-loop c = printed-loop (shown-printed c)
 abbrev turn-shown : tie.After-turn Inv-loop μ-loop → tie.After-out3 Inv-loop μ-loop
 turn-shown c = c .before .before .before
 
+abbrev turn-loop : tie.After-turn Inv-loop μ-loop → tie.At-loop Inv-loop μ-loop
+turn-loop c = shown-loop (turn-shown c)
+
+abbrev turn-read : tie.After-turn Inv-loop μ-loop → tie.After-read-full Inv-loop μ-loop
+turn-read c = loop-read (turn-loop c)
+
 abbrev told-turn : tie.After-known-told Inv-loop μ-loop → tie.After-turn Inv-loop μ-loop
 told-turn c = c .before
-
-abbrev told-loop : tie.After-known-told Inv-loop μ-loop → tie.At-loop Inv-loop μ-loop
-told-loop c = shown-loop (turn-shown (told-turn c))
-
-abbrev told-read : tie.After-known-told Inv-loop μ-loop → tie.After-read-full Inv-loop μ-loop
-told-read c = loop-read (told-loop c)
 
 abbrev lent-told : tie.After-roster Inv-loop μ-loop → tie.After-known-told Inv-loop μ-loop
 lent-told c = c .before .before
@@ -64,41 +64,25 @@ lent-told c = c .before .before
 abbrev to-step-lent : tie.After-out4 Inv-loop μ-loop → tie.After-roster Inv-loop μ-loop
 to-step-lent c = c .before .before
 
-abbrev to-step-told : tie.After-out4 Inv-loop μ-loop → tie.After-known-told Inv-loop μ-loop
-to-step-told c = lent-told (to-step-lent c)
-
-abbrev to-step-loop : tie.After-out4 Inv-loop μ-loop → tie.At-loop Inv-loop μ-loop
-to-step-loop c = told-loop (to-step-told c)
-
-abbrev to-step-read : tie.After-out4 Inv-loop μ-loop → tie.After-read-full Inv-loop μ-loop
-to-step-read c = loop-read (to-step-loop c)
+abbrev to-step-turn : tie.After-out4 Inv-loop μ-loop → tie.After-turn Inv-loop μ-loop
+to-step-turn c = told-turn (lent-told (to-step-lent c))
 
 abbrev step-lent : tie.After-take-turn Inv-loop μ-loop → tie.After-out4 Inv-loop μ-loop
 step-lent c = c .before
 
+abbrev step-turn : tie.After-take-turn Inv-loop μ-loop → tie.After-turn Inv-loop μ-loop
+step-turn c = to-step-turn (step-lent c)
+
 abbrev again-step : tie.After-out5 Inv-loop μ-loop → tie.After-take-turn Inv-loop μ-loop
 again-step c = c .before .before .before
 
-abbrev again-told : tie.After-out5 Inv-loop μ-loop → tie.After-known-told Inv-loop μ-loop
-again-told c = to-step-told (step-lent (again-step c))
-
-abbrev again-turn : tie.After-out5 Inv-loop μ-loop → tie.After-turn Inv-loop μ-loop
-again-turn c = told-turn (again-told c)
-
-abbrev again-loop : tie.After-out5 Inv-loop μ-loop → tie.At-loop Inv-loop μ-loop
-again-loop c = shown-loop (turn-shown (again-turn c))
-
-abbrev again-read : tie.After-out5 Inv-loop μ-loop → tie.After-read-full Inv-loop μ-loop
-again-read c = loop-read (again-loop c)
-
 -- where the turn goes on
-going : (c : tie.After-known-told Inv-loop μ-loop)
-    → Fine (Go (told-turn c .turn .given .0 .0) (told-turn c .turn .given .0 .1 .0) (told-turn c .turn .given .0 .1 .1 .0)) (told-read c .read-full .result)
-    (told-loop c .loop .roster)
-    (told-loop c .loop .space)
+going : (c : tie.After-turn Inv-loop μ-loop)
+    → Fine (Go (c .turn .given .0 .0) (c .turn .given .0 .1 .0) (c .turn .given .0 .1 .1 .0)) (turn-read c .read-full .result) (turn-loop c .loop .roster)
+    (turn-loop c .loop .space)
 going c =
-    let l = told-loop c .loop in
-    subst (λ (t : Turn). Fine t (told-read c .read-full .result) (l .roster) (l .space)) (told-turn c .turn .given .1) (l .inv .fine)
+    let l = turn-loop c .loop in
+    subst (λ (t : Turn). Fine t (turn-read c .read-full .result) (l .roster) (l .space)) (c .turn .given .1) (l .inv .fine)
 
 slice-aggregate-read-full : tie.Need-slice-aggregate-read-full Inv-loop μ-loop
 slice-aggregate-read-full c = search needs
@@ -184,23 +168,27 @@ slice-aggregate-take-turn-4 c = search needs
 
 take-turn-requires : tie.Need-take-turn-requires Inv-loop μ-loop
 take-turn-requires c κs =
-    let i = to-step-loop c .loop .inv in
-    let f = going (to-step-told c) in
-    let l = length-take (to-step-read c .read-full .result) (to-step-read c .read-full .last .1 .0) in
+    let turn = to-step-turn c in
+    let i = turn-loop turn .loop .inv in
+    let f = going turn in
+    let r = turn-read turn .read-full in
+    let l = length-take (r .result) (r .last .1 .0) in
     (omega (arith, f .1, i .few, i .inputLen), omega (arith, f .0, f .1, i .few), omega (arith, f .3, f .0, f .1, i .few), f .2, omega (arith, i .outLen))
 
 loop-less : tie.Need-loop-less Inv-loop μ-loop
 loop-less c =
-    let i = again-loop c .loop .inv in
-    let r = again-read c .read-full in
+    let turn = step-turn (again-step c) in
+    let i = turn-loop turn .loop .inv in
+    let r = turn-read turn .read-full in
     let t = again-step c .take-turn in
-    subst (λ (u : Turn). left (t .result) (r .result) < left u (r .result)) (sym (again-turn c .turn .given .1))
-    (turn-less (r .last .1 .0) _ (i .inputLen) (i .few) (t .result) _ _ _ _ _ (t .ensures .1 .0) (going (again-told c) .1))
+    subst (λ (u : Turn). left (t .result) (r .result) < left u (r .result)) (sym (turn .turn .given .1))
+    (turn-less (r .last .1 .0) _ (i .inputLen) (i .few) (t .result) _ _ _ _ _ (t .ensures .1 .0) (going turn .1))
 
 loop-again : tie.Need-loop-again Inv-loop μ-loop
 loop-again c =
-    let i = again-loop c .loop .inv in
-    let f = going (again-told c) in
+    let turn = step-turn (again-step c) in
+    let i = turn-loop turn .loop .inv in
+    let f = going turn in
     let t = again-step c .take-turn in
     record {
       inputLen = search needs;
@@ -209,7 +197,7 @@ loop-again c =
       rosterLen = search needs;
       outLen = search needs;
       fits = printed-fits _ _ _ _ (t .ensures .0 .written) (i .outLen) (search needs);
-      fine = turn-fine (again-read c .read-full .last .1 .0) _ (i .inputLen) (i .few) (t .result) _ _ _ _ _ (t .ensures .1 .0) (f .0) (f .3);
+      fine = turn-fine (turn-read turn .read-full .last .1 .0) _ (i .inputLen) (i .few) (t .result) _ _ _ _ _ (t .ensures .1 .0) (f .0) (f .3);
     }
 
 pub main-spec : {M : Type 1} → statement M

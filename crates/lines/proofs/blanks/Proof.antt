@@ -24,14 +24,11 @@ loop-start c = c .before
 abbrev turn-loop : tie.In-loop Inv-loop μ-loop → tie.At-loop Inv-loop μ-loop
 turn-loop c = c .before
 
+abbrev turn-start : tie.In-loop Inv-loop μ-loop → tie.Start Inv-loop μ-loop
+turn-start c = loop-start (turn-loop c)
+
 abbrev counted-turn : tie.Joined1 Inv-loop μ-loop → tie.In-loop Inv-loop μ-loop
 counted-turn c = c .before .before
-
-abbrev counted-loop : tie.Joined1 Inv-loop μ-loop → tie.At-loop Inv-loop μ-loop
-counted-loop c = turn-loop (counted-turn c)
-
-abbrev counted-start : tie.Joined1 Inv-loop μ-loop → tie.Start Inv-loop μ-loop
-counted-start c = loop-start (counted-loop c)
 
 abbrev done-loop : tie.After-loop Inv-loop μ-loop → tie.At-loop Inv-loop μ-loop
 done-loop c = c .before
@@ -56,9 +53,10 @@ loop-less c = search needs
 
 loop-again : tie.Need-loop-again Inv-loop μ-loop
 loop-again c =
-    let line : List ℕ = counted-start c .args .line .now in
-    let i : ℕ = counted-loop c .loop .i in
-    let l = counted-turn c .loop-test .taken in
+    let here = counted-turn c in
+    let line : List ℕ = turn-start here .args .line .now in
+    let i : ℕ = turn-loop here .loop .i in
+    let l = here .loop-test .taken in
     ⊎-elim
     (λ w. (search needs, search needs, omega (arith, blank-counted line i l (w .0 .taken))))
     (λ w. (search needs, search needs, omega (arith, other-passed line i l (w .0 .left))))

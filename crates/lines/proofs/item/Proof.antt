@@ -26,14 +26,11 @@ turn-loop c = c .before
 abbrev blank-turn : tie.Then1 Inv-loop μ-loop → tie.In-loop Inv-loop μ-loop
 blank-turn c = c .before .before
 
+abbrev blank-loop : tie.Then1 Inv-loop μ-loop → tie.At-loop Inv-loop μ-loop
+blank-loop c = turn-loop (blank-turn c)
+
 abbrev ended-blank : tie.Then2 Inv-loop μ-loop → tie.Then1 Inv-loop μ-loop
 ended-blank c = c .before
-
-abbrev ended-turn : tie.Then2 Inv-loop μ-loop → tie.In-loop Inv-loop μ-loop
-ended-turn c = blank-turn (ended-blank c)
-
-abbrev ended-loop : tie.Then2 Inv-loop μ-loop → tie.At-loop Inv-loop μ-loop
-ended-loop c = turn-loop (ended-turn c)
 
 abbrev next-turn : tie.Joined1 Inv-loop μ-loop → tie.In-loop Inv-loop μ-loop
 next-turn c = c .before .before
@@ -44,6 +41,9 @@ next-loop c = turn-loop (next-turn c)
 abbrev end-loop : tie.After-loop Inv-loop μ-loop → tie.At-loop Inv-loop μ-loop
 end-loop c = c .before
 
+abbrev end-start : tie.After-loop Inv-loop μ-loop → tie.Start Inv-loop μ-loop
+end-start c = loop-start (end-loop c)
+
 abbrev last-end : tie.Then3 Inv-loop μ-loop → tie.After-loop Inv-loop μ-loop
 last-end c = c .before
 
@@ -53,12 +53,6 @@ last-loop c = end-loop (last-end c)
 abbrev past-end : tie.Else3 Inv-loop μ-loop → tie.After-loop Inv-loop μ-loop
 past-end c = c .before
 
-abbrev past-loop : tie.Else3 Inv-loop μ-loop → tie.At-loop Inv-loop μ-loop
-past-loop c = end-loop (past-end c)
-
-abbrev past-start : tie.Else3 Inv-loop μ-loop → tie.Start Inv-loop μ-loop
-past-start c = loop-start (past-loop c)
-
 loop-holds : tie.Need-loop-holds Inv-loop μ-loop
 loop-holds c = (search needs, search needs, search needs, from-start _ _)
 
@@ -67,10 +61,11 @@ shared-slice-read-if1 c = search needs
 
 returns : tie.Need-returns Inv-loop μ-loop
 returns c =
+    let here = ended-blank c in
     record {
       low = search needs;
       high = search needs;
-      is = sym (ended-loop c .loop .inv .3 ∙ at-its-end _ _ _ _ (c .if2 .taken) (ended-turn c .loop-test .taken) (ended-blank c .if1 .taken));
+      is = sym (blank-loop here .loop .inv .3 ∙ at-its-end _ _ _ _ (c .if2 .taken) (blank-turn here .loop-test .taken) (here .if1 .taken));
     }
 
 sub-before : tie.Need-sub-before Inv-loop μ-loop
@@ -104,12 +99,13 @@ returns-2 c =
 
 returns-3 : tie.Need-returns-3 Inv-loop μ-loop
 returns-3 c =
+    let here = past-end c in
     record {
       low = search needs;
       high = search needs;
       is =
-          between-none (past-start c .args .line .now) (past-loop c .loop .at)
-          ∙ sym (past-loop c .loop .inv .3 ∙ missing _ _ _ _ (c .if3 .left) (past-end c .loop-test .left));
+          between-none (end-start here .args .line .now) (end-loop here .loop .at)
+          ∙ sym (end-loop here .loop .inv .3 ∙ missing _ _ _ _ (c .if3 .left) (here .loop-test .left));
     }
 
 pub item-spec : {M : Type 1} → statement M

@@ -30,6 +30,9 @@ told-key c = c .before
 abbrev range-told : tie.After-key-in-range → tie.After-known-told
 range-told c = c .before
 
+abbrev range-key : tie.After-key-in-range → tie.After-key
+range-key c = told-key (range-told c)
+
 abbrev inside-range : tie.Then1 → tie.After-key-in-range
 inside-range c = c .before
 
@@ -47,12 +50,6 @@ kept-key c = told-key (kept-told c)
 
 abbrev outside-range : tie.Else1 → tie.After-key-in-range
 outside-range c = c .before
-
-abbrev outside-told : tie.Else1 → tie.After-known-told
-outside-told c = range-told (outside-range c)
-
-abbrev outside-key : tie.Else1 → tie.After-key
-outside-key c = told-key (outside-told c)
 
 -- no number
 abbrev no-number-item : tie.After-enum-told → tie.After-key-in
@@ -99,8 +96,9 @@ returns-2 c =
 
 returns-3 : tie.Need-returns-3
 returns-3 c =
-    let r = rw (key-kept (outside-told c)) at (sym (outside-range c .key-in-range .ensures) ∙ c .if1 .left) in
-    rw (key-read (outside-key c)) (rw r)
+    let here = outside-range c in
+    let r = rw (key-kept (range-told here)) at (sym (here .key-in-range .ensures) ∙ c .if1 .left) in
+    rw (key-read (range-key here)) (rw r)
 
 pub key-gift-spec : {M : Type 1} → statement M
 key-gift-spec =

@@ -29,14 +29,11 @@ key-in-partition c = c .before .before
 abbrev key-key-in : tie.After-key → tie.After-key-in
 key-key-in c = c .before .before
 
+abbrev key-partition : tie.After-key → tie.After-partition
+key-partition c = key-in-partition (key-key-in c)
+
 abbrev told-key : tie.After-known-told2 → tie.After-key
 told-key c = c .before
-
-abbrev told-key-in : tie.After-known-told2 → tie.After-key-in
-told-key-in c = key-key-in (told-key c)
-
-abbrev told-partition : tie.After-known-told2 → tie.After-partition
-told-partition c = key-in-partition (told-key-in c)
 
 -- no key
 abbrev no-key-key-in : tie.After-enum-told2 → tie.After-key-in
@@ -79,9 +76,10 @@ returns-2 c = rw (partition-read (no-key-partition c), no-key _ (sym (c .enum-to
 
 returns-3 : tie.Need-returns-3
 returns-3 c =
-    let e = some-key _ _ (sym (told-key c .key .given .1) ∙ told-key-in c .key-in .ensures) in
-    let f : SFits w32 (told-key c .key .given .0 .0) = record { sfits = c .known-told2 .given .0 .1 } in
-    rw (partition-read (told-partition c), e, toZ-ofZ f)
+    let here = told-key c in
+    let e = some-key _ _ (sym (here .key .given .1) ∙ key-key-in here .key-in .ensures) in
+    let f : SFits w32 (here .key .given .0 .0) = record { sfits = c .known-told2 .given .0 .1 } in
+    rw (partition-read (key-partition here), e, toZ-ofZ f)
 
 pub pair-in-spec : {M : Type 1} → statement M
 pair-in-spec =

@@ -44,6 +44,9 @@ who-start c = well-start (number-well (who-number c))
 abbrev partition-in-who : tie.After-partition-gift → tie.After-who
 partition-in-who c = c .before .before
 
+abbrev partition-in-well : tie.After-partition-gift → tie.Else1
+partition-in-well c = number-well (who-number (partition-in-who c))
+
 abbrev partition-partition-in : tie.After-partition → tie.After-partition-gift
 partition-partition-in c = c .before .before
 
@@ -52,6 +55,12 @@ partition-start c = who-start (partition-in-who (partition-partition-in c))
 
 abbrev key-in-partition : tie.After-key-gift → tie.After-partition
 key-in-partition c = c .before .before
+
+abbrev key-in-who : tie.After-key-gift → tie.After-who
+key-in-who c = partition-in-who (partition-partition-in (key-in-partition c))
+
+abbrev key-in-well : tie.After-key-gift → tie.Else1
+key-in-well c = number-well (who-number (key-in-who c))
 
 abbrev key-key-in : tie.After-key → tie.After-key-gift
 key-key-in c = c .before .before
@@ -80,36 +89,12 @@ stranger-told c = c .before
 abbrev member-told : tie.Else2 → tie.After-known-told3
 member-told c = c .before
 
-abbrev member-key : tie.Else2 → tie.After-key
-member-key c = told-key (member-told c)
-
-abbrev member-partition : tie.Else2 → tie.After-partition
-member-partition c = key-in-partition (key-key-in (member-key c))
-
-abbrev member-start : tie.Else2 → tie.Start
-member-start c = partition-start (member-partition c)
-
 -- left at the key, the partition, the party
 abbrev no-key-key-in : tie.After-enum-told3 → tie.After-key-gift
 no-key-key-in c = c .before .before
 
-abbrev no-key-partition : tie.After-enum-told3 → tie.After-partition
-no-key-partition c = key-in-partition (no-key-key-in c)
-
-abbrev no-key-who : tie.After-enum-told3 → tie.After-who
-no-key-who c = partition-in-who (partition-partition-in (no-key-partition c))
-
-abbrev no-key-well : tie.After-enum-told3 → tie.Else1
-no-key-well c = number-well (who-number (no-key-who c))
-
 abbrev no-partition-partition-in : tie.After-enum-told2 → tie.After-partition-gift
 no-partition-partition-in c = c .before .before
-
-abbrev no-partition-who : tie.After-enum-told2 → tie.After-who
-no-partition-who c = partition-in-who (no-partition-partition-in c)
-
-abbrev no-partition-well : tie.After-enum-told2 → tie.Else1
-no-partition-well c = number-well (who-number (no-partition-who c))
 
 abbrev no-party-number : tie.After-enum-told → tie.After-number-in
 no-party-number c = c .before .before
@@ -176,8 +161,9 @@ enum-told-2 c = search needs
 
 returns-3 : tie.Need-returns-3
 returns-3 c =
-    let p = sym (no-partition-partition-in c .partition-gift .ensures) ∙ ap meantGift (c .enum-told2 .given .1) in
-    λ ws. unread (give-by _ (only-gift (no-partition-well c)) (party (no-partition-who c)) p refl)
+    let here = no-partition-partition-in c in
+    let p = sym (here .partition-gift .ensures) ∙ ap meantGift (c .enum-told2 .given .1) in
+    λ ws. unread (give-by _ (only-gift (partition-in-well here)) (party (partition-in-who here)) p refl)
 
 key-gift-requires : tie.Need-key-gift-requires
 key-gift-requires c κs = search needs
@@ -190,18 +176,20 @@ enum-told-3 c = search needs
 
 returns-4 : tie.Need-returns-4
 returns-4 c =
-    let k = sym (no-key-key-in c .key-gift .ensures) ∙ ap meantGift (c .enum-told3 .given .1) in
-    λ ws. unread (give-by _ (only-gift (no-key-well c)) (party (no-key-who c)) (partition-read (no-key-partition c)) k)
+    let here = no-key-key-in c in
+    let k = sym (here .key-gift .ensures) ∙ ap meantGift (c .enum-told3 .given .1) in
+    λ ws. unread (give-by _ (only-gift (key-in-well here)) (party (key-in-who here)) (partition-read (key-in-partition here)) k)
 
 returns-5 : tie.Need-returns-5
 returns-5 c = λ ws. unread (all-read (stranger-told c) ∙ given-past _ _ _ (c .if2 .taken))
 
 returns-6 : tie.Need-returns-6
 returns-6 c =
-    let text = member-start c .args .line .now in
-    let p = partition-up-to 2 text (member-partition c .partition .given .0 .0) (partition-read (member-partition c)) in
-    let k = key-up-to 3 text (member-key c .key .given .0 .0) (key-read (member-key c)) in
-    λ ws. record { is = sym (all-read (member-told c) ∙ given-to _ _ _ (c .if2 .left)); inRange = (c .if2 .left, p, k) }
+    let here = member-told c in
+    let text = told-start here .args .line .now in
+    let p = partition-up-to 2 text (told-partition here .partition .given .0 .0) (partition-read (told-partition here)) in
+    let k = key-up-to 3 text (told-key here .key .given .0 .0) (key-read (told-key here)) in
+    λ ws. record { is = sym (all-read here ∙ given-to _ _ _ (c .if2 .left)); inRange = (c .if2 .left, p, k) }
 
 pub read-give-spec : {M : Type 1} → statement M
 read-give-spec =

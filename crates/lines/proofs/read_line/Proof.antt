@@ -54,20 +54,17 @@ put-is-put c = c .before
 abbrev put-read-put : tie.After-read-put → tie.Then3
 put-read-put c = c .before .before
 
+abbrev put-read-is-put : tie.After-read-put → tie.After-item-is2
+put-read-is-put c = put-is-put (put-read-put c)
+
+abbrev put-read-no-give : tie.After-read-put → tie.Else2
+put-read-no-give c = is-put-no-give (put-read-is-put c)
+
+abbrev put-read-seven : tie.After-read-put → tie.Else1
+put-read-seven c = is-give-seven (no-give-is-give (put-read-no-give c))
+
 abbrev put-done-put-read : tie.After-slice-known2 → tie.After-read-put
 put-done-put-read c = c .before .before
-
-abbrev put-done-put : tie.After-slice-known2 → tie.Then3
-put-done-put c = put-read-put (put-done-put-read c)
-
-abbrev put-done-is-put : tie.After-slice-known2 → tie.After-item-is2
-put-done-is-put c = put-is-put (put-done-put c)
-
-abbrev put-done-no-give : tie.After-slice-known2 → tie.Else2
-put-done-no-give c = is-put-no-give (put-done-is-put c)
-
-abbrev put-done-seven : tie.After-slice-known2 → tie.Else1
-put-done-seven c = is-give-seven (no-give-is-give (put-done-no-give c))
 
 abbrev no-put-is-put : tie.Else3 → tie.After-item-is2
 no-put-is-put c = c .before
@@ -85,23 +82,20 @@ read-is-read c = c .before
 abbrev read-read-read : tie.After-read-seek → tie.Then4
 read-read-read c = c .before .before
 
+abbrev read-read-is-read : tie.After-read-seek → tie.After-item-is3
+read-read-is-read c = read-is-read (read-read-read c)
+
+abbrev read-read-no-put : tie.After-read-seek → tie.Else3
+read-read-no-put c = is-read-no-put (read-read-is-read c)
+
+abbrev read-read-no-give : tie.After-read-seek → tie.Else2
+read-read-no-give c = is-put-no-give (no-put-is-put (read-read-no-put c))
+
+abbrev read-read-seven : tie.After-read-seek → tie.Else1
+read-read-seven c = is-give-seven (no-give-is-give (read-read-no-give c))
+
 abbrev read-done-read-read : tie.After-slice-known3 → tie.After-read-seek
 read-done-read-read c = c .before .before
-
-abbrev read-done-read : tie.After-slice-known3 → tie.Then4
-read-done-read c = read-read-read (read-done-read-read c)
-
-abbrev read-done-is-read : tie.After-slice-known3 → tie.After-item-is3
-read-done-is-read c = read-is-read (read-done-read c)
-
-abbrev read-done-no-put : tie.After-slice-known3 → tie.Else3
-read-done-no-put c = is-read-no-put (read-done-is-read c)
-
-abbrev read-done-no-give : tie.After-slice-known3 → tie.Else2
-read-done-no-give c = is-put-no-give (no-put-is-put (read-done-no-put c))
-
-abbrev read-done-seven : tie.After-slice-known3 → tie.Else1
-read-done-seven c = is-give-seven (no-give-is-give (read-done-no-give c))
 
 abbrev no-read-is-read : tie.Else4 → tie.After-item-is3
 no-read-is-read c = c .before
@@ -113,47 +107,41 @@ no-read-start c = no-put-start (is-read-no-put (no-read-is-read c))
 abbrev is-take-no-read : tie.After-item-is4 → tie.Else4
 is-take-no-read c = c .before .before
 
+abbrev is-take-no-put : tie.After-item-is4 → tie.Else3
+is-take-no-put c = is-read-no-put (no-read-is-read (is-take-no-read c))
+
+abbrev is-take-no-give : tie.After-item-is4 → tie.Else2
+is-take-no-give c = is-put-no-give (no-put-is-put (is-take-no-put c))
+
+abbrev is-take-seven : tie.After-item-is4 → tie.Else1
+is-take-seven c = is-give-seven (no-give-is-give (is-take-no-give c))
+
 abbrev take-is-take : tie.Then5 → tie.After-item-is4
 take-is-take c = c .before
 
 abbrev take-read-take : tie.After-read-seek2 → tie.Then5
 take-read-take c = c .before .before
 
+abbrev take-read-is-take : tie.After-read-seek2 → tie.After-item-is4
+take-read-is-take c = take-is-take (take-read-take c)
+
+abbrev take-read-no-read : tie.After-read-seek2 → tie.Else4
+take-read-no-read c = is-take-no-read (take-read-is-take c)
+
+abbrev take-read-no-put : tie.After-read-seek2 → tie.Else3
+take-read-no-put c = is-read-no-put (no-read-is-read (take-read-no-read c))
+
+abbrev take-read-no-give : tie.After-read-seek2 → tie.Else2
+take-read-no-give c = is-put-no-give (no-put-is-put (take-read-no-put c))
+
+abbrev take-read-seven : tie.After-read-seek2 → tie.Else1
+take-read-seven c = is-give-seven (no-give-is-give (take-read-no-give c))
+
 abbrev take-done-take-read : tie.After-slice-known4 → tie.After-read-seek2
 take-done-take-read c = c .before .before
 
-abbrev take-done-take : tie.After-slice-known4 → tie.Then5
-take-done-take c = take-read-take (take-done-take-read c)
-
-abbrev take-done-is-take : tie.After-slice-known4 → tie.After-item-is4
-take-done-is-take c = take-is-take (take-done-take c)
-
-abbrev take-done-no-read : tie.After-slice-known4 → tie.Else4
-take-done-no-read c = is-take-no-read (take-done-is-take c)
-
-abbrev take-done-no-put : tie.After-slice-known4 → tie.Else3
-take-done-no-put c = is-read-no-put (no-read-is-read (take-done-no-read c))
-
-abbrev take-done-no-give : tie.After-slice-known4 → tie.Else2
-take-done-no-give c = is-put-no-give (no-put-is-put (take-done-no-put c))
-
-abbrev take-done-seven : tie.After-slice-known4 → tie.Else1
-take-done-seven c = is-give-seven (no-give-is-give (take-done-no-give c))
-
 abbrev no-take-is-take : tie.Else5 → tie.After-item-is4
 no-take-is-take c = c .before
-
-abbrev no-take-no-read : tie.Else5 → tie.Else4
-no-take-no-read c = is-take-no-read (no-take-is-take c)
-
-abbrev no-take-no-put : tie.Else5 → tie.Else3
-no-take-no-put c = is-read-no-put (no-read-is-read (no-take-no-read c))
-
-abbrev no-take-no-give : tie.Else5 → tie.Else2
-no-take-no-give c = is-put-no-give (no-put-is-put (no-take-no-put c))
-
-abbrev no-take-seven : tie.Else5 → tie.Else1
-no-take-seven c = is-give-seven (no-give-is-give (no-take-no-give c))
 
 six-blanks : (c : tie.Else1) → eqb (lines.blanks (seven-start c .args .line .now)) 6 ≡ true
 six-blanks c = eq-eqb _ 6 (sym (seven-blanks c .blanks .ensures) ∙ c .if1 .left)
@@ -204,8 +192,9 @@ same-length c = search needs
 returns-3 : tie.Need-returns-3
 unfolding lines.readLine
 returns-3 c =
-    let h = sym (put-done-is-put c .item-is2 .ensures) ∙ put-done-put c .if3 .taken in
-    rw (six-blanks (put-done-seven c), no-give (put-done-no-give c), h) (put-done-put-read c .read-put .ensures)
+    let here = put-done-put-read c in
+    let h = sym (put-read-is-put here .item-is2 .ensures) ∙ put-read-put here .if3 .taken in
+    rw (six-blanks (put-read-seven here), no-give (put-read-no-give here), h) (here .read-put .ensures)
 
 slice-aggregate-item-is-3 : tie.Need-slice-aggregate-item-is-3
 slice-aggregate-item-is-3 c = search needs
@@ -222,8 +211,9 @@ same-length-2 c = search needs
 returns-4 : tie.Need-returns-4
 unfolding lines.readLine
 returns-4 c =
-    let h = sym (read-done-is-read c .item-is3 .ensures) ∙ read-done-read c .if4 .taken in
-    rw (six-blanks (read-done-seven c), no-give (read-done-no-give c), no-put (read-done-no-put c), h) (read-done-read-read c .read-seek .ensures)
+    let here = read-done-read-read c in
+    let h = sym (read-read-is-read here .item-is3 .ensures) ∙ read-read-read here .if4 .taken in
+    rw (six-blanks (read-read-seven here), no-give (read-read-no-give here), no-put (read-read-no-put here), h) (here .read-seek .ensures)
 
 slice-aggregate-item-is-4 : tie.Need-slice-aggregate-item-is-4
 slice-aggregate-item-is-4 c = search needs
@@ -240,15 +230,17 @@ same-length-3 c = search needs
 returns-5 : tie.Need-returns-5
 unfolding lines.readLine
 returns-5 c =
-    let h = sym (take-done-is-take c .item-is4 .ensures) ∙ take-done-take c .if5 .taken in
-    rw (six-blanks (take-done-seven c), no-give (take-done-no-give c), no-put (take-done-no-put c), no-read (take-done-no-read c), h)
-    (take-done-take-read c .read-seek2 .ensures)
+    let here = take-done-take-read c in
+    let h = sym (take-read-is-take here .item-is4 .ensures) ∙ take-read-take here .if5 .taken in
+    rw (six-blanks (take-read-seven here), no-give (take-read-no-give here), no-put (take-read-no-put here), no-read (take-read-no-read here), h)
+    (here .read-seek2 .ensures)
 
 returns-6 : tie.Need-returns-6
 unfolding lines.readLine
 returns-6 c =
-    let h = sym (no-take-is-take c .item-is4 .ensures) ∙ c .if5 .left in
-    unread (rw (six-blanks (no-take-seven c), no-give (no-take-no-give c), no-put (no-take-no-put c), no-read (no-take-no-read c), h))
+    let here = no-take-is-take c in
+    let h = sym (here .item-is4 .ensures) ∙ c .if5 .left in
+    unread (rw (six-blanks (is-take-seven here), no-give (is-take-no-give here), no-put (is-take-no-put here), no-read (is-take-no-read here), h))
 
 pub read-line-spec : {M : Type 1} → statement M
 read-line-spec =

@@ -40,6 +40,12 @@ read-told-read-pair c = c .before
 abbrev take-in-read-told : tie.After-pair-in2 → tie.After-known-told2
 take-in-read-told c = c .before
 
+abbrev take-in-read-pair : tie.After-pair-in2 → tie.After-rpart
+take-in-read-pair c = read-told-read-pair (take-in-read-told c)
+
+abbrev take-in-who : tie.After-pair-in2 → tie.After-who
+take-in-who c = read-in-who (read-pair-read-in (take-in-read-pair c))
+
 abbrev take-pair-take-in : tie.After-tpart → tie.After-pair-in2
 take-pair-take-in c = c .before .before
 
@@ -52,57 +58,36 @@ take-told-take-pair c = c .before
 abbrev fields-take-told : tie.After-fields-in → tie.After-known-told3
 fields-take-told c = c .before .before
 
+abbrev fields-take-pair : tie.After-fields-in → tie.After-tpart
+fields-take-pair c = take-told-take-pair (fields-take-told c)
+
+abbrev fields-read-told : tie.After-fields-in → tie.After-known-told2
+fields-read-told c = take-in-read-told (take-pair-take-in (fields-take-pair c))
+
+abbrev fields-read-pair : tie.After-fields-in → tie.After-rpart
+fields-read-pair c = read-told-read-pair (fields-read-told c)
+
+abbrev fields-who : tie.After-fields-in → tie.After-who
+fields-who c = read-in-who (read-pair-read-in (fields-read-pair c))
+
 abbrev back-fields : tie.After-slice-known2 → tie.After-fields-in
 back-fields c = c .before .before
 
 abbrev count-back : tie.After-n → tie.After-slice-known2
 count-back c = c .before .before
 
+abbrev count-fields : tie.After-n → tie.After-fields-in
+count-fields c = back-fields (count-back c)
+
 abbrev told-count : tie.After-known-told4 → tie.After-n
 told-count c = c .before
-
-abbrev told-fields : tie.After-known-told4 → tie.After-fields-in
-told-fields c = back-fields (count-back (told-count c))
-
-abbrev told-take-told : tie.After-known-told4 → tie.After-known-told3
-told-take-told c = fields-take-told (told-fields c)
-
-abbrev told-take-pair : tie.After-known-told4 → tie.After-tpart
-told-take-pair c = take-told-take-pair (told-take-told c)
-
-abbrev told-read-told : tie.After-known-told4 → tie.After-known-told2
-told-read-told c = take-in-read-told (take-pair-take-in (told-take-pair c))
-
-abbrev told-read-pair : tie.After-known-told4 → tie.After-rpart
-told-read-pair c = read-told-read-pair (told-read-told c)
-
-abbrev told-who : tie.After-known-told4 → tie.After-who
-told-who c = read-in-who (read-pair-read-in (told-read-pair c))
 
 -- left at the fields, the take pair, the read pair, the party
 abbrev no-fields-back : tie.After-enum-told4 → tie.After-slice-known2
 no-fields-back c = c .before .before
 
-abbrev no-fields-fields : tie.After-enum-told4 → tie.After-fields-in
-no-fields-fields c = back-fields (no-fields-back c)
-
-abbrev no-fields-take-pair : tie.After-enum-told4 → tie.After-tpart
-no-fields-take-pair c = take-told-take-pair (fields-take-told (no-fields-fields c))
-
-abbrev no-fields-read-pair : tie.After-enum-told4 → tie.After-rpart
-no-fields-read-pair c = read-told-read-pair (take-in-read-told (take-pair-take-in (no-fields-take-pair c)))
-
-abbrev no-fields-who : tie.After-enum-told4 → tie.After-who
-no-fields-who c = read-in-who (read-pair-read-in (no-fields-read-pair c))
-
 abbrev no-take-pair-take-in : tie.After-enum-told3 → tie.After-pair-in2
 no-take-pair-take-in c = c .before .before
-
-abbrev no-take-pair-read-pair : tie.After-enum-told3 → tie.After-rpart
-no-take-pair-read-pair c = read-told-read-pair (take-in-read-told (no-take-pair-take-in c))
-
-abbrev no-take-pair-who : tie.After-enum-told3 → tie.After-who
-no-take-pair-who c = read-in-who (read-pair-read-in (no-take-pair-read-pair c))
 
 abbrev no-read-pair-read-in : tie.After-enum-told2 → tie.After-pair-in
 no-read-pair-read-in c = c .before .before
@@ -165,8 +150,9 @@ enum-told-3 c = search needs
 
 returns-3 : tie.Need-returns-3
 returns-3 c =
-    let t = sym (no-take-pair-take-in c .pair-in2 .ensures) ∙ ap meantPair (c .enum-told3 .given .1) in
-    unread (put-by _ (party (no-take-pair-who c)) (read-pair (no-take-pair-read-pair c)) t refl)
+    let here = no-take-pair-take-in c in
+    let t = sym (here .pair-in2 .ensures) ∙ ap meantPair (c .enum-told3 .given .1) in
+    unread (put-by _ (party (take-in-who here)) (read-pair (take-in-read-pair here)) t refl)
 
 fields-in-requires : tie.Need-fields-in-requires
 fields-in-requires c κs = search needs
@@ -182,18 +168,20 @@ same-length c = search needs
 
 returns-4 : tie.Need-returns-4
 returns-4 c =
-    let f = no-fields _ _ _ (no-fields-fields c .fields-in .ensures) (c .enum-told4 .given .1) in
-    unread (put-by _ (party (no-fields-who c)) (read-pair (no-fields-read-pair c)) (take-pair (no-fields-take-pair c)) f)
+    let here = back-fields (no-fields-back c) in
+    let f = no-fields _ _ _ (here .fields-in .ensures) (c .enum-told4 .given .1) in
+    unread (put-by _ (party (fields-who here)) (read-pair (fields-read-pair here)) (take-pair (fields-take-pair here)) f)
 
 same-length-2 : tie.Need-same-length-2
 same-length-2 c = search needs
 
 returns-5 : tie.Need-returns-5
 returns-5 c =
-    let f = told-fields c .fields-in .ensures in
+    let here = count-fields (told-count c) in
+    let f = here .fields-in .ensures in
     let n = told-count c .n .given .1 in
-    let read = put-by _ (party (told-who c)) (read-pair (told-read-pair c)) (take-pair (told-take-pair c)) (some-fields _ _ _ f _ n) in
-    record { is = rw (read-key (told-read-told c), take-key (told-take-told c)) (sym read); inRange = few-fields _ _ _ f _ n }
+    let read = put-by _ (party (fields-who here)) (read-pair (fields-read-pair here)) (take-pair (fields-take-pair here)) (some-fields _ _ _ f _ n) in
+    record { is = rw (read-key (fields-read-told here), take-key (fields-take-told here)) (sym read); inRange = few-fields _ _ _ f _ n }
 
 pub read-put-spec : {M : Type 1} → statement M
 read-put-spec =

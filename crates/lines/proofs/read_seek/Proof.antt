@@ -42,6 +42,9 @@ who-start c = well-start (number-well (who-number c))
 abbrev pair-in-who : tie.After-pair-in → tie.After-who
 pair-in-who c = c .before .before
 
+abbrev pair-in-well : tie.After-pair-in → tie.Else1
+pair-in-well c = number-well (who-number (pair-in-who c))
+
 abbrev partition-pair-in : tie.After-partition → tie.After-pair-in
 partition-pair-in c = c .before .before
 
@@ -54,54 +57,33 @@ pair-told-partition c = c .before
 abbrev fields-pair-told : tie.After-fields-in → tie.After-known-told2
 fields-pair-told c = c .before .before
 
+abbrev fields-partition : tie.After-fields-in → tie.After-partition
+fields-partition c = pair-told-partition (fields-pair-told c)
+
+abbrev fields-who : tie.After-fields-in → tie.After-who
+fields-who c = pair-in-who (partition-pair-in (fields-partition c))
+
+abbrev fields-well : tie.After-fields-in → tie.Else1
+fields-well c = number-well (who-number (fields-who c))
+
 abbrev back-fields : tie.After-slice-known2 → tie.After-fields-in
 back-fields c = c .before .before
 
 abbrev count-back : tie.After-n → tie.After-slice-known2
 count-back c = c .before .before
 
+abbrev count-fields : tie.After-n → tie.After-fields-in
+count-fields c = back-fields (count-back c)
+
 abbrev told-count : tie.After-known-told3 → tie.After-n
 told-count c = c .before
-
-abbrev told-fields : tie.After-known-told3 → tie.After-fields-in
-told-fields c = back-fields (count-back (told-count c))
-
-abbrev told-pair-told : tie.After-known-told3 → tie.After-known-told2
-told-pair-told c = fields-pair-told (told-fields c)
-
-abbrev told-partition : tie.After-known-told3 → tie.After-partition
-told-partition c = pair-told-partition (told-pair-told c)
-
-abbrev told-who : tie.After-known-told3 → tie.After-who
-told-who c = pair-in-who (partition-pair-in (told-partition c))
-
-abbrev told-well : tie.After-known-told3 → tie.Else1
-told-well c = number-well (who-number (told-who c))
 
 -- left at the fields, the pair, the party
 abbrev no-fields-back : tie.After-enum-told3 → tie.After-slice-known2
 no-fields-back c = c .before .before
 
-abbrev no-fields-fields : tie.After-enum-told3 → tie.After-fields-in
-no-fields-fields c = back-fields (no-fields-back c)
-
-abbrev no-fields-partition : tie.After-enum-told3 → tie.After-partition
-no-fields-partition c = pair-told-partition (fields-pair-told (no-fields-fields c))
-
-abbrev no-fields-who : tie.After-enum-told3 → tie.After-who
-no-fields-who c = pair-in-who (partition-pair-in (no-fields-partition c))
-
-abbrev no-fields-well : tie.After-enum-told3 → tie.Else1
-no-fields-well c = number-well (who-number (no-fields-who c))
-
 abbrev no-pair-pair-in : tie.After-enum-told2 → tie.After-pair-in
 no-pair-pair-in c = c .before .before
-
-abbrev no-pair-who : tie.After-enum-told2 → tie.After-who
-no-pair-who c = pair-in-who (no-pair-pair-in c)
-
-abbrev no-pair-well : tie.After-enum-told2 → tie.Else1
-no-pair-well c = number-well (who-number (no-pair-who c))
 
 abbrev no-party-number : tie.After-enum-told → tie.After-number-in
 no-party-number c = c .before .before
@@ -153,8 +135,9 @@ enum-told-2 c = search needs
 
 returns-3 : tie.Need-returns-3
 returns-3 c =
-    let p = sym (no-pair-pair-in c .pair-in .ensures) ∙ ap meantPair (c .enum-told2 .given .1) in
-    unread (seek-by _ _ (no-take-pair (no-pair-well c)) (party (no-pair-who c)) p refl)
+    let here = no-pair-pair-in c in
+    let p = sym (here .pair-in .ensures) ∙ ap meantPair (c .enum-told2 .given .1) in
+    unread (seek-by _ _ (no-take-pair (pair-in-well here)) (party (pair-in-who here)) p refl)
 
 fields-in-requires : tie.Need-fields-in-requires
 fields-in-requires c κs = search needs
@@ -170,18 +153,20 @@ same-length c = search needs
 
 returns-4 : tie.Need-returns-4
 returns-4 c =
-    let f = no-fields _ _ _ (no-fields-fields c .fields-in .ensures) (c .enum-told3 .given .1) in
-    unread (seek-by _ _ (no-take-pair (no-fields-well c)) (party (no-fields-who c)) (pair-read (no-fields-partition c)) f)
+    let here = back-fields (no-fields-back c) in
+    let f = no-fields _ _ _ (here .fields-in .ensures) (c .enum-told3 .given .1) in
+    unread (seek-by _ _ (no-take-pair (fields-well here)) (party (fields-who here)) (pair-read (fields-partition here)) f)
 
 same-length-2 : tie.Need-same-length-2
 same-length-2 c = search needs
 
 returns-5 : tie.Need-returns-5
 returns-5 c =
-    let f = told-fields c .fields-in .ensures in
+    let here = count-fields (told-count c) in
+    let f = here .fields-in .ensures in
     let n = told-count c .n .given .1 in
-    let read = seek-by _ _ (no-take-pair (told-well c)) (party (told-who c)) (pair-read (told-partition c)) (some-fields _ _ _ f _ n) in
-    record { is = rw (key-kept (told-pair-told c)) (sym read); inRange = few-fields _ _ _ f _ n }
+    let read = seek-by _ _ (no-take-pair (fields-well here)) (party (fields-who here)) (pair-read (fields-partition here)) (some-fields _ _ _ f _ n) in
+    record { is = rw (key-kept (fields-pair-told here)) (sym read); inRange = few-fields _ _ _ f _ n }
 
 pub read-seek-spec : {M : Type 1} → statement M
 read-seek-spec =

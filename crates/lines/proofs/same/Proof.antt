@@ -24,23 +24,14 @@ loop-start c = c .before .before
 abbrev turn-loop : tie.In-loop Inv-loop μ-loop → tie.At-loop Inv-loop μ-loop
 turn-loop c = c .before
 
+abbrev turn-start : tie.In-loop Inv-loop μ-loop → tie.Start Inv-loop μ-loop
+turn-start c = loop-start (turn-loop c)
+
 abbrev differ-turn : tie.Then2 Inv-loop μ-loop → tie.In-loop Inv-loop μ-loop
 differ-turn c = c .before .before .before
 
-abbrev differ-loop : tie.Then2 Inv-loop μ-loop → tie.At-loop Inv-loop μ-loop
-differ-loop c = turn-loop (differ-turn c)
-
-abbrev differ-start : tie.Then2 Inv-loop μ-loop → tie.Start Inv-loop μ-loop
-differ-start c = loop-start (differ-loop c)
-
 abbrev agree-turn : tie.Else2 Inv-loop μ-loop → tie.In-loop Inv-loop μ-loop
 agree-turn c = c .before .before .before
-
-abbrev agree-loop : tie.Else2 Inv-loop μ-loop → tie.At-loop Inv-loop μ-loop
-agree-loop c = turn-loop (agree-turn c)
-
-abbrev agree-start : tie.Else2 Inv-loop μ-loop → tie.Start Inv-loop μ-loop
-agree-start c = loop-start (agree-loop c)
 
 abbrev done-loop : tie.After-loop Inv-loop μ-loop → tie.At-loop Inv-loop μ-loop
 done-loop c = c .before
@@ -59,8 +50,9 @@ shared-slice-read-if2-2 c = search needs
 
 returns-2 : tie.Need-returns-2 Inv-loop μ-loop
 returns-2 c =
-    let a = differ-start c .args in
-    let l = differ-loop c .loop in
+    let here = differ-turn c in
+    let a = turn-start here .args in
+    let l = turn-loop here .loop in
     sym (l .inv .1 ∙ byte-differs (a .a .now) (a .b .now) (l .i) (search needs) (search needs) (c .if2 .taken))
 
 add-i : tie.Need-add-i Inv-loop μ-loop
@@ -71,8 +63,9 @@ loop-less c = search needs
 
 loop-again : tie.Need-loop-again Inv-loop μ-loop
 loop-again c =
-    let a = agree-start c .args in
-    let l = agree-loop c .loop in
+    let here = agree-turn c in
+    let a = turn-start here .args in
+    let l = turn-loop here .loop in
     (search needs, l .inv .1 ∙ byte-agrees (a .a .now) (a .b .now) (l .i) (search needs) (search needs) (c .if2 .left))
 
 returns-3 : tie.Need-returns-3 Inv-loop μ-loop

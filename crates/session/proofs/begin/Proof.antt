@@ -23,17 +23,14 @@ unended-end c = c .before
 abbrev complaint-unended : tie.After-render-unreadable → tie.Then1
 complaint-unended c = c .before .before
 
+abbrev complaint-end : tie.After-render-unreadable → tie.After-part-end
+complaint-end c = unended-end (complaint-unended c)
+
+abbrev complaint-start : tie.After-render-unreadable → tie.Start
+complaint-start c = end-start (complaint-end c)
+
 abbrev stop-complaint : tie.After-slice-known2 → tie.After-render-unreadable
 stop-complaint c = c .before .before
-
-abbrev stop-unended : tie.After-slice-known2 → tie.Then1
-stop-unended c = complaint-unended (stop-complaint c)
-
-abbrev stop-end : tie.After-slice-known2 → tie.After-part-end
-stop-end c = unended-end (stop-unended c)
-
-abbrev stop-start : tie.After-slice-known2 → tie.Start
-stop-start c = end-start (stop-end c)
 
 -- a line, and it is not the names
 abbrev ended-end : tie.Else1 → tie.After-part-end
@@ -51,23 +48,20 @@ other-same c = c .before
 abbrev objection-other : tie.After-render-unreadable2 → tie.Then2
 objection-other c = c .before .before
 
+abbrev objection-same : tie.After-render-unreadable2 → tie.After-same
+objection-same c = other-same (objection-other c)
+
+abbrev objection-ended : tie.After-render-unreadable2 → tie.Else1
+objection-ended c = cut-ended (same-cut (objection-same c))
+
+abbrev objection-end : tie.After-render-unreadable2 → tie.After-part-end
+objection-end c = ended-end (objection-ended c)
+
+abbrev objection-start : tie.After-render-unreadable2 → tie.Start
+objection-start c = end-start (objection-end c)
+
 abbrev quit-objection : tie.After-slice-known3 → tie.After-render-unreadable2
 quit-objection c = c .before .before
-
-abbrev quit-other : tie.After-slice-known3 → tie.Then2
-quit-other c = objection-other (quit-objection c)
-
-abbrev quit-same : tie.After-slice-known3 → tie.After-same
-quit-same c = other-same (quit-other c)
-
-abbrev quit-ended : tie.After-slice-known3 → tie.Else1
-quit-ended c = cut-ended (same-cut (quit-same c))
-
-abbrev quit-end : tie.After-slice-known3 → tie.After-part-end
-quit-end c = ended-end (quit-ended c)
-
-abbrev quit-start : tie.After-slice-known3 → tie.Start
-quit-start c = end-start (quit-end c)
 
 -- the names
 abbrev names-same : tie.Else2 → tie.After-same
@@ -76,23 +70,20 @@ names-same c = c .before
 abbrev header-names : tie.After-place → tie.Else2
 header-names c = c .before .before .before
 
+abbrev header-same : tie.After-place → tie.After-same
+header-same c = names-same (header-names c)
+
+abbrev header-ended : tie.After-place → tie.Else1
+header-ended c = cut-ended (same-cut (header-same c))
+
+abbrev header-end : tie.After-place → tie.After-part-end
+header-end c = ended-end (header-ended c)
+
+abbrev header-start : tie.After-place → tie.Start
+header-start c = end-start (header-end c)
+
 abbrev go-header : tie.After-slice-known4 → tie.After-place
 go-header c = c .before .before
-
-abbrev go-names : tie.After-slice-known4 → tie.Else2
-go-names c = header-names (go-header c)
-
-abbrev go-same : tie.After-slice-known4 → tie.After-same
-go-same c = names-same (go-names c)
-
-abbrev go-ended : tie.After-slice-known4 → tie.Else1
-go-ended c = cut-ended (same-cut (go-same c))
-
-abbrev go-end : tie.After-slice-known4 → tie.After-part-end
-go-end c = ended-end (go-ended c)
-
-abbrev go-start : tie.After-slice-known4 → tie.Start
-go-start c = end-start (go-end c)
 
 end-is-high : (c : tie.After-part-end) → c .part-end .result ≤ length (end-start c .args .input .now)
 end-is-high c = end-high 10 (end-start c .args .input .now) 0 _ (search needs) (c .part-end .ensures)
@@ -108,8 +99,9 @@ same-length c = search needs
 
 returns : tie.Need-returns
 returns c =
-    let adds = start-short (stop-start c .args .input .now) _ (stop-end c .part-end .ensures) (stop-unended c .if1 .taken) in
-    (record { text = unreadable 1; adds = adds; written = stop-complaint c .render-unreadable .ensures }, tt)
+    let here = stop-complaint c in
+    let adds = start-short (complaint-start here .args .input .now) _ (complaint-end here .part-end .ensures) (complaint-unended here .if1 .taken) in
+    (record { text = unreadable 1; adds = adds; written = here .render-unreadable .ensures }, tt)
 
 slice-aggregate-same : tie.Need-slice-aggregate-same
 slice-aggregate-same c = sym (length-take-le _ _ (end-is-high (ended-end (cut-ended c))))
@@ -129,9 +121,12 @@ same-length-2 c = search needs
 returns-2 : tie.Need-returns-2
 unfolding inputNames
 returns-2 c =
-    let input = quit-start c .args .input .now in
-    let adds = start-other input _ (quit-end c .part-end .ensures) (quit-ended c .if1 .left) _ (quit-same c .same .ensures) (quit-other c .if2 .taken) in
-    (record { text = unreadable 1; adds = adds; written = quit-objection c .render-unreadable2 .ensures }, tt)
+    let here = quit-objection c in
+    let input = objection-start here .args .input .now in
+    let e = objection-end here .part-end .ensures in
+    let same = objection-same here .same .ensures in
+    let adds = start-other input _ e (objection-ended here .if1 .left) _ same (objection-other here .if2 .taken) in
+    (record { text = unreadable 1; adds = adds; written = here .render-unreadable2 .ensures }, tt)
 
 slice-aggregate-place : tie.Need-slice-aggregate-place
 slice-aggregate-place c = search needs
@@ -140,7 +135,9 @@ place-requires : tie.Need-place-requires
 place-requires c κs = search needs
 
 add-at : tie.Need-add-t7
-add-at c = let l = end-is-high (go-end c) in omega (arith, go-ended c .if1 .left)
+add-at c =
+    let here = go-header c in
+    let l = end-is-high (header-end here) in omega (arith, header-ended here .if1 .left)
 
 same-length-3 : tie.Need-same-length-3
 same-length-3 c = search needs
@@ -148,11 +145,14 @@ same-length-3 c = search needs
 returns-3 : tie.Need-returns-3
 unfolding inputNames outputNames
 returns-3 c =
-    let l = end-is-high (go-end c) in
-    let input = go-start c .args .input .now in
-    let adds = start-names input _ (go-end c .part-end .ensures) (go-ended c .if1 .left) _ (go-same c .same .ensures) (go-names c .if2 .left) in (
-      record { text = outputNames; adds = adds; written = go-header c .place .ensures },
-      (omega arith, omega (arith, go-ended c .if1 .left), refl, fresh, omega arith),
+    let here = go-header c in
+    let l = end-is-high (header-end here) in
+    let input = header-start here .args .input .now in
+    let e = header-end here .part-end .ensures in
+    let same = header-same here .same .ensures in
+    let adds = start-names input _ e (header-ended here .if1 .left) _ same (header-names here .if2 .left) in (
+      record { text = outputNames; adds = adds; written = here .place .ensures },
+      (omega arith, omega (arith, header-ended here .if1 .left), refl, fresh, omega arith),
     )
 
 pub begin-spec : {M : Type 1} → statement M

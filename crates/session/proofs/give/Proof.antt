@@ -29,14 +29,14 @@ between-start c = partition-start (between-partition c)
 abbrev key-between : tie.After-add-name2 → tie.After-add-name-arg2
 key-between c = c .before
 
+abbrev key-partition : tie.After-add-name2 → tie.After-add-name
+key-partition c = between-partition (key-between c)
+
+abbrev key-start : tie.After-add-name2 → tie.Start
+key-start c = partition-start (key-partition c)
+
 abbrev done-key : tie.After-slice-known3 → tie.After-add-name2
 done-key c = c .before .before
-
-abbrev done-partition : tie.After-slice-known3 → tie.After-add-name
-done-partition c = between-partition (key-between (done-key c))
-
-abbrev done-start : tie.After-slice-known3 → tie.Start
-done-start c = partition-start (done-partition c)
 
 returns : tie.Need-returns
 returns c = search needs
@@ -58,9 +58,10 @@ same-length c = search needs
 returns-2 : tie.Need-returns-2
 unfolding given
 returns-2 c =
-    let a = done-start c .args in
-    let gift = done-key c .add-name2 .ensures ∙ ap (λ (l : List ℕ). withName (8 + a .party) (nameOf (a .key)) l) (done-partition c .add-name .ensures) in
-    (partition-unopened (done-partition c) .if1 .left, gift, refl, refl)
+    let here = done-key c in
+    let a = key-start here .args in
+    let gift = here .add-name2 .ensures ∙ ap (λ (l : List ℕ). withName (8 + a .party) (nameOf (a .key)) l) (key-partition here .add-name .ensures) in
+    (partition-unopened (key-partition here) .if1 .left, gift, refl, refl)
 
 pub give-spec : {M : Type 1} → statement M
 give-spec =

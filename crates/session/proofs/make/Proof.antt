@@ -43,17 +43,17 @@ to-put-start c = asked-start (put-told-asked (to-put-put-told c))
 abbrev put-lent : tie.After-put → tie.After-put-arg2
 put-lent c = c .before
 
+abbrev put-put-told : tie.After-put → tie.After-known-told
+put-put-told c = to-put-put-told (put-lent c)
+
+abbrev put-asked : tie.After-put → tie.After-asked
+put-asked c = put-told-asked (put-put-told c)
+
+abbrev put-start : tie.After-put → tie.Start
+put-start c = asked-start (put-asked c)
+
 abbrev put-done-put : tie.After-slice-known3 → tie.After-put
 put-done-put c = c .before .before
-
-abbrev put-done-put-told : tie.After-slice-known3 → tie.After-known-told
-put-done-put-told c = to-put-put-told (put-lent (put-done-put c))
-
-abbrev put-done-asked : tie.After-slice-known3 → tie.After-asked
-put-done-asked c = put-told-asked (put-done-put-told c)
-
-abbrev put-done-start : tie.After-slice-known3 → tie.Start
-put-done-start c = asked-start (put-done-asked c)
 
 -- a read or take
 abbrev sought-known : tie.After-asked2 → tie.After-slice-known2
@@ -80,20 +80,14 @@ reading-fields c = c .before .before
 abbrev read-reading : tie.After-read → tie.After-enum-told
 read-reading c = c .before .before .before
 
+abbrev read-fields : tie.After-read → tie.After-fields
+read-fields c = reading-fields (read-reading c)
+
 abbrev back-read : tie.After-slice-known4 → tie.After-read
 back-read c = c .before .before
 
 abbrev read-done-back : tie.After-slice-known5 → tie.After-slice-known4
 read-done-back c = c .before .before
-
-abbrev read-done-read : tie.After-slice-known5 → tie.After-read
-read-done-read c = back-read (read-done-back c)
-
-abbrev read-done-reading : tie.After-slice-known5 → tie.After-enum-told
-read-done-reading c = read-reading (read-done-read c)
-
-abbrev read-done-fields : tie.After-slice-known5 → tie.After-fields
-read-done-fields c = reading-fields (read-done-reading c)
 
 abbrev taking-fields : tie.After-enum-told2 → tie.After-fields
 taking-fields c = c .before .before
@@ -101,20 +95,14 @@ taking-fields c = c .before .before
 abbrev take-taking : tie.After-take → tie.After-enum-told2
 take-taking c = c .before .before .before
 
+abbrev take-fields : tie.After-take → tie.After-fields
+take-fields c = taking-fields (take-taking c)
+
 abbrev back-take : tie.After-slice-known6 → tie.After-take
 back-take c = c .before .before
 
 abbrev take-done-back : tie.After-slice-known7 → tie.After-slice-known6
 take-done-back c = c .before .before
-
-abbrev take-done-take : tie.After-slice-known7 → tie.After-take
-take-done-take c = back-take (take-done-back c)
-
-abbrev take-done-taking : tie.After-slice-known7 → tie.After-enum-told2
-take-done-taking c = take-taking (take-done-take c)
-
-abbrev take-done-fields : tie.After-slice-known7 → tie.After-fields
-take-done-fields c = taking-fields (take-done-taking c)
 
 -- the put, by its keys; the read or take, by which it is, its key and its result words
 abbrev putOf : tie.After-asked → ℤ → ℤ → Exit
@@ -181,13 +169,14 @@ same-length c = search needs
 
 returns : tie.Need-returns
 returns c =
-    let a = put-done-start c .args in
-    let v = put-done-asked c .asked .given .0 in
-    let r : toZ w32 (ofZ w32 (v .1 .1 .0)) ≡ v .1 .1 .0 = toZ-ofZ (record { sfits = put-done-put-told c .known-told .given .1 .1 .0 .1 }) in
-    let t : toZ w32 (ofZ w32 (v .1 .1 .1 .1 .0)) ≡ v .1 .1 .1 .1 .0 = toZ-ofZ (record { sfits = put-done-put-told c .known-told .given .1 .1 .1 .1 .0 .1 }) in
-    made (put-done-start c) _ _ _ (put-done-asked c .asked .given .1)
+    let here = put-done-put c in
+    let a = put-start here .args in
+    let v = put-asked here .asked .given .0 in
+    let r : toZ w32 (ofZ w32 (v .1 .1 .0)) ≡ v .1 .1 .0 = toZ-ofZ (record { sfits = put-put-told here .known-told .given .1 .1 .0 .1 }) in
+    let t : toZ w32 (ofZ w32 (v .1 .1 .1 .1 .0)) ≡ v .1 .1 .1 .1 .0 = toZ-ofZ (record { sfits = put-put-told here .known-told .given .1 .1 .1 .1 .0 .1 }) in
+    made (put-start here) _ _ _ (put-asked here .asked .given .1)
     (made-put (a .space .now) (v .0) (pair (v .1 .0) (v .1 .1 .0)) (pair (v .1 .1 .1 .0) (v .1 .1 .1 .1 .0)) _ _ _ _
-    (put-done-put c .put .ensures ∙ ap₂ (putOf (put-done-asked c)) r t))
+    (here .put .ensures ∙ ap₂ (putOf (put-asked here)) r t))
 
 same-length-2 : tie.Need-same-length-2
 same-length-2 c = search needs
@@ -196,7 +185,9 @@ same-length-3 : tie.Need-same-length-3
 same-length-3 c = search needs
 
 returns-2 : tie.Need-returns-2
-returns-2 c = sought (read-done-fields c) reading _ _ _ (ap place.meant (read-done-reading c .enum-told .given .1)) (read-done-read c .read .ensures)
+returns-2 c =
+    let here = back-read (read-done-back c) in
+    sought (read-fields here) reading _ _ _ (ap place.meant (read-reading here .enum-told .given .1)) (here .read .ensures)
 
 same-length-4 : tie.Need-same-length-4
 same-length-4 c = search needs
@@ -205,7 +196,9 @@ same-length-5 : tie.Need-same-length-5
 same-length-5 c = search needs
 
 returns-3 : tie.Need-returns-3
-returns-3 c = sought (take-done-fields c) taking _ _ _ (ap place.meant (take-done-taking c .enum-told2 .given .1)) (take-done-take c .take .ensures)
+returns-3 c =
+    let here = back-take (take-done-back c) in
+    sought (take-fields here) taking _ _ _ (ap place.meant (take-taking here .enum-told2 .given .1)) (here .take .ensures)
 
 pub make-spec : {M : Type 1} → statement M
 make-spec =

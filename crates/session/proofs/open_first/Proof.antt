@@ -14,14 +14,11 @@ unopened-start c = c .before .before .before
 abbrev open-unopened : tie.After-open → tie.Then1
 open-unopened c = c .before .before
 
+abbrev open-start : tie.After-open → tie.Start
+open-start c = unopened-start (open-unopened c)
+
 abbrev done-open : tie.After-slice-known2 → tie.After-open
 done-open c = c .before .before
-
-abbrev done-unopened : tie.After-slice-known2 → tie.Then1
-done-unopened c = open-unopened (done-open c)
-
-abbrev done-start : tie.After-slice-known2 → tie.Start
-done-start c = unopened-start (done-unopened c)
 
 abbrev opened-start : tie.Else1 → tie.Start
 opened-start c = c .before .before .before
@@ -34,8 +31,9 @@ same-length c = search needs
 
 returns : tie.Need-returns
 returns c =
-    let o : done-start c .args .s .opened ≡ false = not-true _ (done-unopened c .if1 .taken) in
-    rw o (ap (λ (x : Exit). x .space) (done-open c .«open» .ensures))
+    let here = done-open c in
+    let o : open-start here .args .s .opened ≡ false = not-true _ (open-unopened here .if1 .taken) in
+    rw o (ap (λ (x : Exit). x .space) (here .«open» .ensures))
 
 returns-2 : tie.Need-returns-2
 returns-2 c = let o : opened-start c .args .s .opened ≡ true = not-false _ (c .if1 .left) in rw o refl

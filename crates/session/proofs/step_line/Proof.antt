@@ -52,17 +52,17 @@ to-give-start c = read-line-start (gift-read-line (to-give-gift c))
 abbrev give-lent : tie.After-give → tie.After-give-arg
 give-lent c = c .before
 
+abbrev give-gift : tie.After-give → tie.After-read
+give-gift c = to-give-gift (give-lent c)
+
+abbrev give-read-line : tie.After-give → tie.After-read-line
+give-read-line c = gift-read-line (give-gift c)
+
+abbrev give-start : tie.After-give → tie.Start
+give-start c = read-line-start (give-read-line c)
+
 abbrev gave-give : tie.After-slice-known4 → tie.After-give
 gave-give c = c .before .before
-
-abbrev gave-gift : tie.After-slice-known4 → tie.After-read
-gave-gift c = to-give-gift (give-lent (gave-give c))
-
-abbrev gave-read-line : tie.After-slice-known4 → tie.After-read-line
-gave-read-line c = gift-read-line (gave-gift c)
-
-abbrev gave-start : tie.After-slice-known4 → tie.Start
-gave-start c = read-line-start (gave-read-line c)
 
 -- a call
 abbrev asked-read-line : tie.After-read2 → tie.After-read-line
@@ -92,26 +92,23 @@ to-reply-start c = read-line-start (to-reply-read-line c)
 abbrev reply-lent : tie.After-reply → tie.After-reply-arg2
 reply-lent c = c .before
 
+abbrev reply-open : tie.After-reply → tie.After-open-first
+reply-open c = opened-open (to-reply-opened (reply-lent c))
+
+abbrev reply-asked : tie.After-reply → tie.After-read2
+reply-asked c = open-asked (reply-open c)
+
+abbrev reply-read-line : tie.After-reply → tie.After-read-line
+reply-read-line c = asked-read-line (reply-asked c)
+
+abbrev reply-start : tie.After-reply → tie.Start
+reply-start c = read-line-start (reply-read-line c)
+
 abbrev space-back-reply : tie.After-slice-known6 → tie.After-reply
 space-back-reply c = c .before .before
 
 abbrev done-space-back : tie.After-slice-known7 → tie.After-slice-known6
 done-space-back c = c .before .before
-
-abbrev done-reply : tie.After-slice-known7 → tie.After-reply
-done-reply c = space-back-reply (done-space-back c)
-
-abbrev done-open : tie.After-slice-known7 → tie.After-open-first
-done-open c = opened-open (to-reply-opened (reply-lent (done-reply c)))
-
-abbrev done-asked : tie.After-slice-known7 → tie.After-read2
-done-asked c = open-asked (done-open c)
-
-abbrev done-read-line : tie.After-slice-known7 → tie.After-read-line
-done-read-line c = asked-read-line (done-asked c)
-
-abbrev done-start : tie.After-slice-known7 → tie.Start
-done-start c = read-line-start (done-read-line c)
 
 -- the line, by what the code read it as
 reads-as : (c : tie.After-read-line) (l : Line) → c .read-line .result ≡ l
@@ -128,35 +125,35 @@ partition-of c = nameOf (c .read .given .0 .1 .0)
 abbrev key-of : tie.After-read → Option ℕ
 key-of c = nameOf (c .read .given .0 .1 .1 .0)
 
-abbrev roster-after : tie.After-slice-known4 → List ℕ
-roster-after c = gave-give c .give .last .1 .1 .1 .1 .0
+abbrev roster-after : tie.After-give → List ℕ
+roster-after c = c .give .last .1 .1 .1 .1 .0
 
-gift : (c : tie.After-slice-known4)
-    → readLine (gave-start c .args .line .now) ≡ some (give (party-of (gave-gift c)) (partition-of (gave-gift c)) (key-of (gave-gift c)))
-gift c = reads-as (gave-read-line c) _ (gave-gift c .read .given .1)
+gift : (c : tie.After-give)
+    → readLine (give-start c .args .line .now) ≡ some (give (party-of (give-gift c)) (partition-of (give-gift c)) (key-of (give-gift c)))
+gift c = reads-as (give-read-line c) _ (give-gift c .read .given .1)
 
 -- what `give` says of its answer, and what the step is to say of it
-given-is : tie.After-slice-known4 → Step → Type 0
+given-is : tie.After-give → Step → Type 0
 given-is c r =
-    let a = gave-start c .args in
-    Gave r (a .s) (party-of (gave-gift c)) (partition-of (gave-gift c)) (key-of (gave-gift c)) (a .roster .now) (roster-after c)
+    let a = give-start c .args in
+    Gave r (a .s) (party-of (give-gift c)) (partition-of (give-gift c)) (key-of (give-gift c)) (a .roster .now) (roster-after c)
 
-step-is : tie.After-slice-known4 → Step → Type 0
+step-is : tie.After-give → Step → Type 0
 step-is c r =
-    let a = gave-start c .args in
+    let a = give-start c .args in
     StepIs r (a .s) (a .line .now) (a .roster .now) (roster-after c) (a .space .now) (a .space .now) (a .out .now) (a .out .now)
 
 -- a gift, by what `give` answers
-gave : (c : tie.After-slice-known4) (r : Step) → given-is c r → step-is c r
+gave : (c : tie.After-give) (r : Step) → given-is c r → step-is c r
 unfolding given-is step-is
 gave c Unreadable g =
-    let a = gave-start c .args in
+    let a = give-start c .args in
     (step-late (a .s) (a .roster .now) (a .space .now) (a .line .now) _ _ _ (gift c) (g .0), g .1, refl, refl)
 gave c (Next t n) g =
-    let a = gave-start c .args in
+    let a = give-start c .args in
     rw (g .2, g .3)
-    (give-goes (a .s) (a .roster .now) (a .space .now) (a .line .now) _ (a .out .now) _ _ _ (gave-start c .pre .1) (gift c) (g .0) (g .1)
-    (omega (arith, gave-give c .give .kept .1 .1 .1 .1 .0, gave-start c .pre .1 .sixteen)))
+    (give-goes (a .s) (a .roster .now) (a .space .now) (a .line .now) _ (a .out .now) _ _ _ (give-start c .pre .1) (gift c) (g .0) (g .1)
+    (omega (arith, c .give .kept .1 .1 .1 .1 .0, give-start c .pre .1 .sixteen)))
 
 add-number : tie.Need-add-number
 add-number c = search needs
@@ -208,7 +205,7 @@ same-length c = search needs
 
 returns-2 : tie.Need-returns-2
 unfolding given-is step-is
-returns-2 c = gave c (gave-give c .give .result) (gave-give c .give .ensures)
+returns-2 c = let here = gave-give c in gave here (here .give .result) (here .give .ensures)
 
 same-length-2 : tie.Need-same-length-2
 same-length-2 c = search needs
@@ -221,11 +218,12 @@ same-length-4 c = search needs
 
 returns-3 : tie.Need-returns-3
 returns-3 c =
-    let s = done-start c in
+    let here = space-back-reply (done-space-back c) in
+    let s = reply-start here in
     let a = s .args in
-    let r = done-reply c .reply in
-    let o = done-open c .open-first in
-    let read = reads-as (done-read-line c) _ (done-asked c .read2 .given .1) in
+    let r = here .reply in
+    let o = reply-open here .open-first in
+    let read = reads-as (reply-read-line here) _ (reply-asked here .read2 .given .1) in
     let whole : length (r .last .0) ≡ 1809 = omega (arith, r .kept .0, o .kept .1 .1 .0, s .pre .1 .words) in
     asked-goes (a .s) (a .roster .now) (a .space .now) (a .line .now) _ (s .pre .1) read _ _ _ _ _ (o .ensures) (r .ensures) whole
 

@@ -57,17 +57,17 @@ to-complaint-start c = last-start (unended-last (to-complaint-unended c))
 abbrev complaint-lent : tie.After-render-unreadable → tie.After-render-unreadable-arg
 complaint-lent c = c .before
 
+abbrev complaint-unended : tie.After-render-unreadable → tie.Else2
+complaint-unended c = to-complaint-unended (complaint-lent c)
+
+abbrev complaint-last : tie.After-render-unreadable → tie.Then1
+complaint-last c = unended-last (complaint-unended c)
+
+abbrev complaint-start : tie.After-render-unreadable → tie.Start
+complaint-start c = last-start (complaint-last c)
+
 abbrev stop-complaint : tie.After-slice-known4 → tie.After-render-unreadable
 stop-complaint c = c .before .before
-
-abbrev stop-unended : tie.After-slice-known4 → tie.Else2
-stop-unended c = to-complaint-unended (complaint-lent (stop-complaint c))
-
-abbrev stop-last : tie.After-slice-known4 → tie.Then1
-stop-last c = unended-last (stop-unended c)
-
-abbrev stop-start : tie.After-slice-known4 → tie.Start
-stop-start c = last-start (stop-last c)
 
 -- a line
 abbrev whole-end : tie.Else1 → tie.After-part-end
@@ -107,20 +107,20 @@ stepped-step c = roster-step (space-roster (stepped-space c))
 abbrev next-stepped : tie.After-next → tie.After-slice-known7
 next-stepped c = c .before .before
 
+abbrev next-step : tie.After-next → tie.After-step-line
+next-step c = stepped-step (next-stepped c)
+
+abbrev next-whole : tie.After-next → tie.Else1
+next-whole c = step-whole (next-step c)
+
+abbrev next-end : tie.After-next → tie.After-part-end
+next-end c = whole-end (next-whole c)
+
+abbrev next-start : tie.After-next → tie.Start
+next-start c = end-start (next-end c)
+
 abbrev go-next : tie.After-known-told → tie.After-next
 go-next c = c .before
-
-abbrev go-step : tie.After-known-told → tie.After-step-line
-go-step c = stepped-step (next-stepped (go-next c))
-
-abbrev go-whole : tie.After-known-told → tie.Else1
-go-whole c = step-whole (go-step c)
-
-abbrev go-end : tie.After-known-told → tie.After-part-end
-go-end c = whole-end (go-whole c)
-
-abbrev go-start : tie.After-known-told → tie.Start
-go-start c = end-start (go-end c)
 
 -- it is unreadable
 abbrev unread-stepped : tie.After-enum-told → tie.After-slice-known7
@@ -135,23 +135,23 @@ to-objection-start c = step-start (stepped-step (unread-stepped (to-objection-un
 abbrev objection-lent : tie.After-render-unreadable2 → tie.After-render-unreadable-arg2
 objection-lent c = c .before
 
+abbrev objection-unread : tie.After-render-unreadable2 → tie.After-enum-told
+objection-unread c = to-objection-unread (objection-lent c)
+
+abbrev objection-step : tie.After-render-unreadable2 → tie.After-step-line
+objection-step c = stepped-step (unread-stepped (objection-unread c))
+
+abbrev objection-whole : tie.After-render-unreadable2 → tie.Else1
+objection-whole c = step-whole (objection-step c)
+
+abbrev objection-end : tie.After-render-unreadable2 → tie.After-part-end
+objection-end c = whole-end (objection-whole c)
+
+abbrev objection-start : tie.After-render-unreadable2 → tie.Start
+objection-start c = end-start (objection-end c)
+
 abbrev quit-objection : tie.After-slice-known8 → tie.After-render-unreadable2
 quit-objection c = c .before .before
-
-abbrev quit-unread : tie.After-slice-known8 → tie.After-enum-told
-quit-unread c = to-objection-unread (objection-lent (quit-objection c))
-
-abbrev quit-step : tie.After-slice-known8 → tie.After-step-line
-quit-step c = stepped-step (unread-stepped (quit-unread c))
-
-abbrev quit-whole : tie.After-slice-known8 → tie.Else1
-quit-whole c = step-whole (quit-step c)
-
-abbrev quit-end : tie.After-slice-known8 → tie.After-part-end
-quit-end c = whole-end (quit-whole c)
-
-abbrev quit-start : tie.After-slice-known8 → tie.Start
-quit-start c = end-start (quit-end c)
 
 -- where the turn begins: the phase, the line's number, and the input from the line on
 abbrev phase-at : tie.Start → Phase
@@ -216,11 +216,12 @@ same-length c = search needs
 
 returns-2 : tie.Need-returns-2
 returns-2 c =
-    let n = number-at (stop-start c) in
-    let l = before 10 (rest-at (stop-start c)) in
-    let some : (length l ≡ 0 → ⊥) = λ z. stop-unended c .if2 .left (omega (arith, last-end (stop-last c) .part-end .ensures)) in
-    let adds = last-line (stop-last c) ∙ unended n l some ∙ sym (append-nil _) in
-    (record { text = unreadable n; adds = adds; written = stop-complaint c .render-unreadable .ensures }, (tt, (refl, refl)))
+    let here = stop-complaint c in
+    let n = number-at (complaint-start here) in
+    let l = before 10 (rest-at (complaint-start here)) in
+    let some : (length l ≡ 0 → ⊥) = λ z. complaint-unended here .if2 .left (omega (arith, last-end (complaint-last here) .part-end .ensures)) in
+    let adds = last-line (complaint-last here) ∙ unended n l some ∙ sym (append-nil _) in
+    (record { text = unreadable n; adds = adds; written = here .render-unreadable .ensures }, (tt, (refl, refl)))
 
 sub-step-line : tie.Need-sub-step-line
 sub-step-line c = search needs
@@ -258,19 +259,21 @@ same-length-4 c = search needs
 returns-3 : tie.Need-returns-3
 unfolding step-says
 returns-3 c =
-    let s = quit-start c in
+    let here = quit-objection c in
+    let s = objection-start here in
     let n = number-at s in
-    let h = subst (step-says (quit-step c)) (quit-unread c .enum-told .given .1) (quit-step c .step-line .ensures) in
-    let adds = unreadable-line _ n (rest-at s) (after-at (quit-end c)) (further (quit-whole c)) (line-steps (quit-whole c) ∙ h .0) ∙ sym (append-nil _) in
-    let r = quit-objection c .render-unreadable2 in
+    let h = subst (step-says (objection-step here)) (objection-unread here .enum-told .given .1) (objection-step here .step-line .ensures) in
+    let w = objection-whole here in
+    let adds = unreadable-line _ n (rest-at s) (after-at (whole-end w)) (further w) (line-steps w ∙ h .0) ∙ sym (append-nil _) in
+    let r = here .render-unreadable2 in
     let written = subst (λ (o : List ℕ). Written o 0 (unreadable n) (r .last .1 .0) (r .result)) (h .3) (r .ensures) in
     (record { text = unreadable n; adds = adds; written = written }, (tt, (h .1, h .2)))
 
 add-at : tie.Need-add-t13
-add-at c = let l = end-is-high (go-end c) in omega (arith, go-whole c .if1 .left)
+add-at c = let l = end-is-high (next-end (go-next c)) in omega (arith, next-whole (go-next c) .if1 .left)
 
 add-number : tie.Need-add-t32
-add-number c = omega (arith, go-start c .pre .1)
+add-number c = omega (arith, next-start (go-next c) .pre .1)
 
 same-length-5 : tie.Need-same-length-5
 same-length-5 c = search needs
@@ -284,13 +287,14 @@ same-length-7 c = search needs
 returns-4 : tie.Need-returns-4
 unfolding step-says
 returns-4 c =
-    let s = go-start c in
-    let g = subst (step-says (go-step c)) (go-next c .next .given .1) (go-step c .step-line .ensures) in
-    let high = end-is-high (go-end c) in
-    let low = end-low 10 (s .args .input .now) (s .args .from .at) _ (s .pre .0) (go-end c .part-end .ensures) in
-    let adds = line-adds _ _ (rest-at s) (after-at (go-end c)) _ _ (further (go-whole c)) (line-steps (go-whole c) ∙ g .stepped) in (
+    let here = go-next c in
+    let s = next-start here in
+    let g = subst (step-says (next-step here)) (here .next .given .1) (next-step here .step-line .ensures) in
+    let high = end-is-high (next-end here) in
+    let low = end-low 10 (s .args .input .now) (s .args .from .at) _ (s .pre .0) (next-end here .part-end .ensures) in
+    let adds = line-adds _ _ (rest-at s) (after-at (next-end here)) _ _ (further (next-whole here)) (line-steps (next-whole here) ∙ g .stepped) in (
       record { text = g .text; adds = adds; written = g .written },
-      ((omega arith, omega (arith, go-whole c .if1 .left), add-one _, g .ready, g .calls), g .kept),
+      ((omega arith, omega (arith, next-whole here .if1 .left), add-one _, g .ready, g .calls), g .kept),
     )
 
 pub take-turn-spec : {M : Type 1} → statement M

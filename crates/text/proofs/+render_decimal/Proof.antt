@@ -41,14 +41,14 @@ module _ (t : ℕ) where
       → lts.After-render-decimal-arg (asked t, reads.Post) (given t) reads.Post
   tenth-lent c = c .before
 
+  abbrev tenth-more : lts.After-render-decimal (asked t, reads.Post) (given t) reads.Post → lts.Else1 (asked t, reads.Post) (given t) reads.Post
+  tenth-more c = to-tenth-more (tenth-lent c)
+
+  abbrev tenth-start : lts.After-render-decimal (asked t, reads.Post) (given t) reads.Post → lts.Start (asked t, reads.Post) (given t) reads.Post
+  tenth-start c = more-start (tenth-more c)
+
   abbrev back-tenth : lts.After-slice-known2 (asked t, reads.Post) (given t) reads.Post → lts.After-render-decimal (asked t, reads.Post) (given t) reads.Post
   back-tenth c = c .before .before
-
-  abbrev tenth-back-more : lts.After-slice-known2 (asked t, reads.Post) (given t) reads.Post → lts.Else1 (asked t, reads.Post) (given t) reads.Post
-  tenth-back-more c = to-tenth-more (tenth-lent (back-tenth c))
-
-  abbrev tenth-back-start : lts.After-slice-known2 (asked t, reads.Post) (given t) reads.Post → lts.Start (asked t, reads.Post) (given t) reads.Post
-  tenth-back-start c = more-start (tenth-back-more c)
 
   add-out : lts.Need-add-out (asked t, reads.Post) (given t) reads.Post
   add-out c = search needs
@@ -81,18 +81,23 @@ module _ (t : ℕ) where
   cast-out-2 c = search needs
 
   slice-write-out-2 : lts.Need-slice-write-out-2 (asked t, reads.Post) (given t) reads.Post
-  slice-write-out-2 c = last-room _ _ _ (tenth-back-more c .if1 .left) (tenth-back-start c .pre .1) _ _ (back-tenth c .render-decimal .ensures)
+  slice-write-out-2 c =
+      let here = back-tenth c in
+      last-room _ _ _ (tenth-more here .if1 .left) (tenth-start here .pre .1) _ _ (here .render-decimal .ensures)
 
   add-result-2 : lts.Need-add-result-2 (asked t, reads.Post) (given t) reads.Post
   add-result-2 c =
-      let l = last-room _ _ _ (tenth-back-more c .if1 .left) (tenth-back-start c .pre .1) _ _ (back-tenth c .render-decimal .ensures) in
+      let here = back-tenth c in
+      let l = last-room _ _ _ (tenth-more here .if1 .left) (tenth-start here .pre .1) _ _ (here .render-decimal .ensures) in
       search needs
 
   same-length-2 : lts.Need-same-length-2 (asked t, reads.Post) (given t) reads.Post
   same-length-2 c = search needs
 
   returns-2 : lts.Need-returns-2 (asked t, reads.Post) (given t) reads.Post
-  returns-2 c = written-more _ _ _ (tenth-back-more c .if1 .left) (tenth-back-start c .pre .1) _ _ (back-tenth c .render-decimal .ensures)
+  returns-2 c =
+      let here = back-tenth c in
+      written-more _ _ _ (tenth-more here .if1 .left) (tenth-start here .pre .1) _ _ (here .render-decimal .ensures)
 
 pub +render-decimal-spec : {M : Type 1} → statement M
 +render-decimal-spec =

@@ -22,14 +22,11 @@ told-key c = c .before
 abbrev range-told : tie.After-key-in-range → tie.After-known-told
 range-told c = c .before
 
+abbrev range-key : tie.After-key-in-range → tie.After-key
+range-key c = told-key (range-told c)
+
 abbrev outside-range : tie.Then1 → tie.After-key-in-range
 outside-range c = c .before
-
-abbrev outside-told : tie.Then1 → tie.After-known-told
-outside-told c = range-told (outside-range c)
-
-abbrev outside-key : tie.Then1 → tie.After-key
-outside-key c = told-key (outside-told c)
 
 abbrev inside-range : tie.Else1 → tie.After-key-in-range
 inside-range c = c .before
@@ -68,7 +65,9 @@ key-in-range-requires : tie.Need-key-in-range-requires
 key-in-range-requires c κs = search needs
 
 returns-2 : tie.Need-returns-2
-returns-2 c = key-out _ _ (outside-key c .key .given .1) (ranged (outside-range c) ∙ not-true _ (c .if1 .taken))
+returns-2 c =
+    let here = outside-range c in
+    key-out _ _ (range-key here .key .given .1) (ranged here ∙ not-true _ (c .if1 .taken))
 
 stored-key-requires : tie.Need-stored-key-requires
 stored-key-requires c κs = sym (inside-range c .key-in-range .ensures) ∙ not-false _ (c .if1 .left)

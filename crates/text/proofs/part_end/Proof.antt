@@ -22,23 +22,14 @@ loop-start c = c .before
 abbrev turn-loop : tie.In-loop Inv-loop μ-loop → tie.At-loop Inv-loop μ-loop
 turn-loop c = c .before
 
+abbrev turn-start : tie.In-loop Inv-loop μ-loop → tie.Start Inv-loop μ-loop
+turn-start c = loop-start (turn-loop c)
+
 abbrev found-turn : tie.Then1 Inv-loop μ-loop → tie.In-loop Inv-loop μ-loop
 found-turn c = c .before .before
 
-abbrev found-loop : tie.Then1 Inv-loop μ-loop → tie.At-loop Inv-loop μ-loop
-found-loop c = turn-loop (found-turn c)
-
-abbrev found-start : tie.Then1 Inv-loop μ-loop → tie.Start Inv-loop μ-loop
-found-start c = loop-start (found-loop c)
-
 abbrev further-turn : tie.Else1 Inv-loop μ-loop → tie.In-loop Inv-loop μ-loop
 further-turn c = c .before .before
-
-abbrev further-loop : tie.Else1 Inv-loop μ-loop → tie.At-loop Inv-loop μ-loop
-further-loop c = turn-loop (further-turn c)
-
-abbrev further-start : tie.Else1 Inv-loop μ-loop → tie.Start Inv-loop μ-loop
-further-start c = loop-start (further-loop c)
 
 abbrev done-loop : tie.After-loop Inv-loop μ-loop → tie.At-loop Inv-loop μ-loop
 done-loop c = c .before
@@ -54,9 +45,10 @@ shared-slice-read-if1 c = search needs
 
 returns : tie.Need-returns Inv-loop μ-loop
 returns c =
-    let a = found-start c .args in
-    let e = before-here (a .sep) (a .text .now) _ (found-turn c .loop-test .taken) (c .if1 .taken) in
-    omega (arith, found-loop c .loop .inv, ap length e)
+    let here = found-turn c in
+    let a = turn-start here .args in
+    let e = before-here (a .sep) (a .text .now) _ (here .loop-test .taken) (c .if1 .taken) in
+    omega (arith, turn-loop here .loop .inv, ap length e)
 
 add-i : tie.Need-add-i Inv-loop μ-loop
 add-i c = search needs
@@ -66,9 +58,10 @@ loop-less c = search needs
 
 loop-again : tie.Need-loop-again Inv-loop μ-loop
 loop-again c =
-    let a = further-start c .args in
-    let e = before-on (a .sep) (a .text .now) _ (further-turn c .loop-test .taken) (c .if1 .left) in
-    omega (arith, further-loop c .loop .inv, ap length e)
+    let here = further-turn c in
+    let a = turn-start here .args in
+    let e = before-on (a .sep) (a .text .now) _ (here .loop-test .taken) (c .if1 .left) in
+    omega (arith, turn-loop here .loop .inv, ap length e)
 
 returns-2 : tie.Need-returns-2 Inv-loop μ-loop
 returns-2 c =

@@ -40,6 +40,9 @@ end-loop c = turn-loop (end-turn c)
 abbrev read-end : tie.After-read-field Inv-loop μ-loop → tie.After-part-end Inv-loop μ-loop
 read-end c = c .before .before
 
+abbrev read-loop : tie.After-read-field Inv-loop μ-loop → tie.At-loop Inv-loop μ-loop
+read-loop c = end-loop (read-end c)
+
 -- a field
 abbrev word-read : tie.After-w Inv-loop μ-loop → tie.After-read-field Inv-loop μ-loop
 word-read c = c .before .before
@@ -50,53 +53,26 @@ told-word c = c .before
 abbrev told-loop : tie.After-known-told Inv-loop μ-loop → tie.At-loop Inv-loop μ-loop
 told-loop c = end-loop (read-end (word-read (told-word c)))
 
+abbrev told-read : tie.After-known-told Inv-loop μ-loop → tie.After-read-field Inv-loop μ-loop
+told-read c = word-read (told-word c)
+
+abbrev told-end : tie.After-known-told Inv-loop μ-loop → tie.After-part-end Inv-loop μ-loop
+told-end c = read-end (told-read c)
+
+abbrev told-turn : tie.After-known-told Inv-loop μ-loop → tie.In-loop Inv-loop μ-loop
+told-turn c = end-turn (told-end c)
+
 -- the last one
 abbrev last-told : tie.Then2 Inv-loop μ-loop → tie.After-known-told Inv-loop μ-loop
 last-told c = c .before
-
-abbrev last-word : tie.Then2 Inv-loop μ-loop → tie.After-w Inv-loop μ-loop
-last-word c = told-word (last-told c)
-
-abbrev last-read : tie.Then2 Inv-loop μ-loop → tie.After-read-field Inv-loop μ-loop
-last-read c = word-read (last-word c)
-
-abbrev last-end : tie.Then2 Inv-loop μ-loop → tie.After-part-end Inv-loop μ-loop
-last-end c = read-end (last-read c)
-
-abbrev last-turn : tie.Then2 Inv-loop μ-loop → tie.In-loop Inv-loop μ-loop
-last-turn c = end-turn (last-end c)
-
-abbrev last-loop : tie.Then2 Inv-loop μ-loop → tie.At-loop Inv-loop μ-loop
-last-loop c = turn-loop (last-turn c)
 
 -- more of them
 abbrev more-told : tie.Else2 Inv-loop μ-loop → tie.After-known-told Inv-loop μ-loop
 more-told c = c .before
 
-abbrev more-word : tie.Else2 Inv-loop μ-loop → tie.After-w Inv-loop μ-loop
-more-word c = told-word (more-told c)
-
-abbrev more-read : tie.Else2 Inv-loop μ-loop → tie.After-read-field Inv-loop μ-loop
-more-read c = word-read (more-word c)
-
-abbrev more-end : tie.Else2 Inv-loop μ-loop → tie.After-part-end Inv-loop μ-loop
-more-end c = read-end (more-read c)
-
-abbrev more-turn : tie.Else2 Inv-loop μ-loop → tie.In-loop Inv-loop μ-loop
-more-turn c = end-turn (more-end c)
-
-abbrev more-loop : tie.Else2 Inv-loop μ-loop → tie.At-loop Inv-loop μ-loop
-more-loop c = turn-loop (more-turn c)
-
 -- an unreadable part
 abbrev unread-read : tie.After-enum-told Inv-loop μ-loop → tie.After-read-field Inv-loop μ-loop
 unread-read c = c .before .before
-
-abbrev unread-end : tie.After-enum-told Inv-loop μ-loop → tie.After-part-end Inv-loop μ-loop
-unread-end c = read-end (unread-read c)
-
-abbrev unread-loop : tie.After-enum-told Inv-loop μ-loop → tie.At-loop Inv-loop μ-loop
-unread-loop c = end-loop (unread-end c)
 
 -- more than sixteen
 abbrev full-loop : tie.After-loop Inv-loop μ-loop → tie.At-loop Inv-loop μ-loop
@@ -133,12 +109,13 @@ enum-told : tie.Need-enum-told Inv-loop μ-loop
 enum-told c = search needs
 
 same-length-1 : tie.Need-same-length Inv-loop μ-loop
-same-length-1 c = same-length (unread-loop c .loop .inv)
+same-length-1 c = same-length (read-loop (unread-read c) .loop .inv)
 
 returns-2 : tie.Need-returns-2 Inv-loop μ-loop
 returns-2 c =
-    let none = word-none _ (sym (c .enum-told .given .1) ∙ unread-read c .read-field .ensures) in
-    stopped (unread-loop c .loop .inv) _ (unread-end c .part-end .ensures) none
+    let here = unread-read c in
+    let none = word-none _ (sym (c .enum-told .given .1) ∙ here .read-field .ensures) in
+    stopped (read-loop here .loop .inv) _ (read-end here .part-end .ensures) none
 
 mul-fields : tie.Need-mul-fields Inv-loop μ-loop
 mul-fields c = search needs
@@ -150,23 +127,29 @@ add-n : tie.Need-add-n Inv-loop μ-loop
 add-n c = search needs
 
 same-length-2 : tie.Need-same-length-2 Inv-loop μ-loop
-same-length-2 c = length-set (last-loop c .loop .fields) _ _ ∙ same-length (last-loop c .loop .inv)
+same-length-2 c =
+    let here = last-told c in
+    length-set (told-loop here .loop .fields) _ _ ∙ same-length (told-loop here .loop .inv)
 
 returns-3 : tie.Need-returns-3 Inv-loop μ-loop
 returns-3 c =
-    let field = word-some _ _ (sym (last-word c .w .given .1) ∙ last-read c .read-field .ensures) in
-    done-all (last-loop c .loop .inv) _ (last-end c .part-end .ensures) _ field (last-turn c .loop-test .taken) (c .if2 .taken)
+    let here = last-told c in
+    let field = word-some _ _ (sym (told-word here .w .given .1) ∙ told-read here .read-field .ensures) in
+    done-all (told-loop here .loop .inv) _ (told-end here .part-end .ensures) _ field (told-turn here .loop-test .taken) (c .if2 .taken)
 
 add-at : tie.Need-add-at Inv-loop μ-loop
-add-at c = let l = high (more-loop c .loop .inv) _ (more-end c .part-end .ensures) in omega (arith, c .if2 .left, l)
+add-at c =
+    let here = more-told c in
+    let l = high (told-loop here .loop .inv) _ (told-end here .part-end .ensures) in omega (arith, c .if2 .left, l)
 
 loop-less : tie.Need-loop-less Inv-loop μ-loop
 loop-less c = search needs
 
 loop-again : tie.Need-loop-again Inv-loop μ-loop
 loop-again c =
-    let field = word-some _ _ (sym (more-word c .w .given .1) ∙ more-read c .read-field .ensures) in
-    reading-on (more-loop c .loop .inv) _ (more-end c .part-end .ensures) _ field (more-turn c .loop-test .taken) (c .if2 .left)
+    let here = more-told c in
+    let field = word-some _ _ (sym (told-word here .w .given .1) ∙ told-read here .read-field .ensures) in
+    reading-on (told-loop here .loop .inv) _ (told-end here .part-end .ensures) _ field (told-turn here .loop-test .taken) (c .if2 .left)
 
 same-length-3 : tie.Need-same-length-3 Inv-loop μ-loop
 same-length-3 c = same-length (full-loop c .loop .inv)

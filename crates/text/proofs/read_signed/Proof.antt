@@ -22,23 +22,14 @@ size-minus c = c .before .before
 abbrev value-size : tie.After-v → tie.After-read-up-to
 value-size c = c .before .before
 
+abbrev value-minus : tie.After-v → tie.Then2
+value-minus c = size-minus (value-size c)
+
 abbrev zero-value : tie.Then3 → tie.After-v
 zero-value c = c .before .before
 
-abbrev zero-size : tie.Then3 → tie.After-read-up-to
-zero-size c = value-size (zero-value c)
-
-abbrev zero-minus : tie.Then3 → tie.Then2
-zero-minus c = size-minus (zero-size c)
-
 abbrev negative-value : tie.Else3 → tie.After-v
 negative-value c = c .before .before
-
-abbrev negative-size : tie.Else3 → tie.After-read-up-to
-negative-size c = value-size (negative-value c)
-
-abbrev negative-minus : tie.Else3 → tie.Then2
-negative-minus c = size-minus (negative-size c)
 
 abbrev no-size-size : tie.After-enum-told → tie.After-read-up-to
 no-size-size c = c .before .before
@@ -53,29 +44,23 @@ plain-some c = c .before .before
 abbrev number-plain : tie.After-read-up-to2 → tie.Else2
 number-plain c = c .before
 
+abbrev number-some : tie.After-read-up-to2 → tie.Else1
+number-some c = plain-some (number-plain c)
+
 abbrev read-number : tie.After-v2 → tie.After-read-up-to2
 read-number c = c .before .before
+
+abbrev read-plain : tie.After-v2 → tie.Else2
+read-plain c = number-plain (read-number c)
+
+abbrev read-some : tie.After-v2 → tie.Else1
+read-some c = plain-some (read-plain c)
 
 abbrev told-read : tie.After-known-told2 → tie.After-v2
 told-read c = c .before
 
-abbrev told-number : tie.After-known-told2 → tie.After-read-up-to2
-told-number c = read-number (told-read c)
-
-abbrev told-plain : tie.After-known-told2 → tie.Else2
-told-plain c = number-plain (told-number c)
-
-abbrev told-some : tie.After-known-told2 → tie.Else1
-told-some c = plain-some (told-plain c)
-
 abbrev no-number-number : tie.After-enum-told2 → tie.After-read-up-to2
 no-number-number c = c .before .before
-
-abbrev no-number-plain : tie.After-enum-told2 → tie.Else2
-no-number-plain c = number-plain (no-number-number c)
-
-abbrev no-number-some : tie.After-enum-told2 → tie.Else1
-no-number-some c = plain-some (no-number-plain c)
 
 returns : tie.Need-returns
 unfolding signedOf
@@ -111,24 +96,30 @@ returns-2 c =
 returns-3 : tie.Need-returns-3
 unfolding signedOf
 returns-3 c =
-    let e = readable _ 0 (ap Value (sym (c .if3 .taken)) ∙ sym (zero-value c .v .given .1) ∙ zero-size c .read-up-to .ensures) in
-    ap signedOf (sym (signed-minus _ (zero-minus c .if2 .taken) ∙ ap negative e))
+    let here = zero-value c in
+    let e = readable _ 0 (ap Value (sym (c .if3 .taken)) ∙ sym (here .v .given .1) ∙ value-size here .read-up-to .ensures) in
+    ap signedOf (sym (signed-minus _ (value-minus here .if2 .taken) ∙ ap negative e))
 
 cast-size : tie.Need-cast-size
 cast-size c = search needs
 
 sub-negated : tie.Need-sub-t15
-sub-negated c = negated-fits _ (up-to-le _ _ _ (readable _ _ (sym (negative-value c .v .given .1) ∙ negative-size c .read-up-to .ensures)))
+sub-negated c =
+    let here = negative-value c in
+    negated-fits _ (up-to-le _ _ _ (readable _ _ (sym (here .v .given .1) ∙ value-size here .read-up-to .ensures)))
 
 cast-negated : tie.Need-cast-t16
-cast-negated c = held-fits _ (up-to-le _ _ _ (readable _ _ (sym (negative-value c .v .given .1) ∙ negative-size c .read-up-to .ensures)))
+cast-negated c =
+    let here = negative-value c in
+    held-fits _ (up-to-le _ _ _ (readable _ _ (sym (here .v .given .1) ∙ value-size here .read-up-to .ensures)))
 
 returns-4 : tie.Need-returns-4
 unfolding signedOf
 returns-4 c =
-    let e = readable _ _ (sym (negative-value c .v .given .1) ∙ negative-size c .read-up-to .ensures) in
+    let here = negative-value c in
+    let e = readable _ _ (sym (here .v .given .1) ∙ value-size here .read-up-to .ensures) in
     ap signed-number.Value (held _ (up-to-le _ _ _ e))
-    ∙ ap signedOf (sym (signed-minus _ (negative-minus c .if2 .taken) ∙ ap negative e ∙ negative-some _ (c .if3 .left)))
+    ∙ ap signedOf (sym (signed-minus _ (value-minus here .if2 .taken) ∙ ap negative e ∙ negative-some _ (c .if3 .left)))
 
 read-up-to-requires-2 : tie.Need-read-up-to-requires-2
 read-up-to-requires-2 c κs = search needs
@@ -142,20 +133,24 @@ enum-told-2 c = search needs
 returns-5 : tie.Need-returns-5
 unfolding signedOf
 returns-5 c =
-    let e = unreadable _ (sym (c .enum-told2 .given .1) ∙ no-number-number c .read-up-to2 .ensures) in
-    ap signedOf (sym (signed-plus _ (no-number-some c .if1 .left) (no-number-plain c .if2 .left) ∙ ap positive e))
+    let here = no-number-number c in
+    let e = unreadable _ (sym (c .enum-told2 .given .1) ∙ here .read-up-to2 .ensures) in
+    ap signedOf (sym (signed-plus _ (number-some here .if1 .left) (number-plain here .if2 .left) ∙ ap positive e))
 
 cast-number : tie.Need-cast-t18
-cast-number c = record { sfits = omega (arith, up-to-le _ _ _ (readable _ _ (sym (told-read c .v2 .given .1) ∙ told-number c .read-up-to2 .ensures))) }
+cast-number c =
+    let here = told-read c in
+    record { sfits = omega (arith, up-to-le _ _ _ (readable _ _ (sym (here .v2 .given .1) ∙ read-number here .read-up-to2 .ensures))) }
 
 returns-6 : tie.Need-returns-6
 unfolding signedOf
 returns-6 c =
-    let e = readable _ _ (sym (told-read c .v2 .given .1) ∙ told-number c .read-up-to2 .ensures) in
-    let v : ℕ = told-read c .v2 .given .0 .0 in
+    let here = told-read c in
+    let e = readable _ _ (sym (here .v2 .given .1) ∙ read-number here .read-up-to2 .ensures) in
+    let v : ℕ = here .v2 .given .0 .0 in
     let l : v ≤ 2147483647 = up-to-le _ _ _ e in
     ap signed-number.Value (toZ-pos w32 {n = v} (omega arith))
-    ∙ ap signedOf (sym (signed-plus _ (told-some c .if1 .left) (told-plain c .if2 .left) ∙ ap positive e))
+    ∙ ap signedOf (sym (signed-plus _ (read-some here .if1 .left) (read-plain here .if2 .left) ∙ ap positive e))
 
 pub read-signed-spec : {M : Type 1} → statement M
 read-signed-spec =

@@ -34,23 +34,20 @@ byte-turn c = c .before
 abbrev digit-byte : tie.After-is-digit Inv-loop μ-loop → tie.After-shared-slice-known2 Inv-loop μ-loop
 digit-byte c = c .before
 
+abbrev digit-turn : tie.After-is-digit Inv-loop μ-loop → tie.In-loop Inv-loop μ-loop
+digit-turn c = byte-turn (digit-byte c)
+
+abbrev digit-loop : tie.After-is-digit Inv-loop μ-loop → tie.At-loop Inv-loop μ-loop
+digit-loop c = turn-loop (digit-turn c)
+
 abbrev other-digit : tie.Then2 Inv-loop μ-loop → tie.After-is-digit Inv-loop μ-loop
 other-digit c = c .before
-
-abbrev other-turn : tie.Then2 Inv-loop μ-loop → tie.In-loop Inv-loop μ-loop
-other-turn c = byte-turn (digit-byte (other-digit c))
-
-abbrev other-loop : tie.Then2 Inv-loop μ-loop → tie.At-loop Inv-loop μ-loop
-other-loop c = turn-loop (other-turn c)
 
 abbrev digits-digit : tie.Else2 Inv-loop μ-loop → tie.After-is-digit Inv-loop μ-loop
 digits-digit c = c .before
 
-abbrev digits-byte : tie.Else2 Inv-loop μ-loop → tie.After-shared-slice-known2 Inv-loop μ-loop
-digits-byte c = digit-byte (digits-digit c)
-
 abbrev digits-turn : tie.Else2 Inv-loop μ-loop → tie.In-loop Inv-loop μ-loop
-digits-turn c = byte-turn (digits-byte c)
+digits-turn c = byte-turn (digit-byte (digits-digit c))
 
 abbrev digits-loop : tie.Else2 Inv-loop μ-loop → tie.At-loop Inv-loop μ-loop
 digits-loop c = turn-loop (digits-turn c)
@@ -58,26 +55,8 @@ digits-loop c = turn-loop (digits-turn c)
 abbrev too-much-digits : tie.Then3 Inv-loop μ-loop → tie.Else2 Inv-loop μ-loop
 too-much-digits c = c .before
 
-abbrev too-much-digit : tie.Then3 Inv-loop μ-loop → tie.After-is-digit Inv-loop μ-loop
-too-much-digit c = digits-digit (too-much-digits c)
-
-abbrev too-much-turn : tie.Then3 Inv-loop μ-loop → tie.In-loop Inv-loop μ-loop
-too-much-turn c = byte-turn (digit-byte (too-much-digit c))
-
-abbrev too-much-loop : tie.Then3 Inv-loop μ-loop → tie.At-loop Inv-loop μ-loop
-too-much-loop c = turn-loop (too-much-turn c)
-
 abbrev next-digit-digits : tie.Else3 Inv-loop μ-loop → tie.Else2 Inv-loop μ-loop
 next-digit-digits c = c .before
-
-abbrev next-digit-digit : tie.Else3 Inv-loop μ-loop → tie.After-is-digit Inv-loop μ-loop
-next-digit-digit c = digits-digit (next-digit-digits c)
-
-abbrev next-digit-turn : tie.Else3 Inv-loop μ-loop → tie.In-loop Inv-loop μ-loop
-next-digit-turn c = byte-turn (digit-byte (next-digit-digit c))
-
-abbrev next-digit-loop : tie.Else3 Inv-loop μ-loop → tie.At-loop Inv-loop μ-loop
-next-digit-loop c = turn-loop (next-digit-turn c)
 
 abbrev done-loop : tie.After-loop Inv-loop μ-loop → tie.At-loop Inv-loop μ-loop
 done-loop c = c .before
@@ -101,8 +80,9 @@ is-digit-requires c κs = search needs
 returns-2 : tie.Need-returns-2 Inv-loop μ-loop
 unfolding numberOf
 returns-2 c =
-    let h = other-turn c .loop-test .taken in
-    ap numberOf (sym (other-loop c .loop .inv .2 ∙ no-digit _ _ _ _ h (sym (other-digit c .is-digit .ensures) ∙ not-true _ (c .if2 .taken))))
+    let here = other-digit c in
+    let h = digit-turn here .loop-test .taken in
+    ap numberOf (sym (digit-loop here .loop .inv .2 ∙ no-digit _ _ _ _ h (sym (here .is-digit .ensures) ∙ not-true _ (c .if2 .taken))))
 
 mul-value : tie.Need-mul-value Inv-loop μ-loop
 mul-value c = search needs
@@ -111,17 +91,22 @@ sub-value : tie.Need-sub-value Inv-loop μ-loop
 sub-value c = digit-low _ (sym (digits-digit c .is-digit .ensures) ∙ not-false _ (c .if2 .left))
 
 cast-value : tie.Need-cast-value Inv-loop μ-loop
-cast-value c = omega (arith, digits-byte c .shared-slice-known2 .given (digits-loop c .loop .i))
+cast-value c =
+    let here = digits-digit c in
+    omega (arith, digit-byte here .shared-slice-known2 .given (digit-loop here .loop .i))
 
 add-value : tie.Need-add-value Inv-loop μ-loop
-add-value c = omega (arith, digits-byte c .shared-slice-known2 .given (digits-loop c .loop .i))
+add-value c =
+    let here = digits-digit c in
+    omega (arith, digit-byte here .shared-slice-known2 .given (digit-loop here .loop .i))
 
 returns-3 : tie.Need-returns-3 Inv-loop μ-loop
 unfolding numberOf
 returns-3 c =
-    let h = too-much-turn c .loop-test .taken in
-    let e = next _ _ _ _ h (sym (too-much-digit c .is-digit .ensures) ∙ not-false _ (too-much-digits c .if2 .left)) in
-    ap numberOf (sym (too-much-loop c .loop .inv .2 ∙ e ∙ too-much _ _ _ (c .if3 .taken)))
+    let here = too-much-digits c in
+    let h = digits-turn here .loop-test .taken in
+    let e = next _ _ _ _ h (sym (digits-digit here .is-digit .ensures) ∙ not-false _ (here .if2 .left)) in
+    ap numberOf (sym (digits-loop here .loop .inv .2 ∙ e ∙ too-much _ _ _ (c .if3 .taken)))
 
 add-i : tie.Need-add-i Inv-loop μ-loop
 add-i c = search needs
@@ -131,9 +116,10 @@ loop-less c = search needs
 
 loop-again : tie.Need-loop-again Inv-loop μ-loop
 loop-again c =
-    let h = next-digit-turn c .loop-test .taken in
-    let digit = sym (next-digit-digit c .is-digit .ensures) ∙ not-false _ (next-digit-digits c .if2 .left) in
-    (search needs, search needs, next-digit-loop c .loop .inv .2 ∙ next _ _ _ _ h digit)
+    let here = next-digit-digits c in
+    let h = digits-turn here .loop-test .taken in
+    let digit = sym (digits-digit here .is-digit .ensures) ∙ not-false _ (here .if2 .left) in
+    (search needs, search needs, digits-loop here .loop .inv .2 ∙ next _ _ _ _ h digit)
 
 cast-result : tie.Need-cast-t15 Inv-loop μ-loop
 cast-result c = search needs

@@ -35,14 +35,11 @@ first-lent c = c .before
 abbrev first-some : tie.After-render-field Inv-loop μ-loop → tie.Else1 Inv-loop μ-loop
 first-some c = to-first-some (first-lent c)
 
+abbrev first-start : tie.After-render-field Inv-loop μ-loop → tie.Start Inv-loop μ-loop
+first-start c = some-start (first-some c)
+
 abbrev back-first : tie.After-slice-known2 Inv-loop μ-loop → tie.After-render-field Inv-loop μ-loop
 back-first c = c .before .before
-
-abbrev first-back-some : tie.After-slice-known2 Inv-loop μ-loop → tie.Else1 Inv-loop μ-loop
-first-back-some c = first-some (back-first c)
-
-abbrev first-back-start : tie.After-slice-known2 Inv-loop μ-loop → tie.Start Inv-loop μ-loop
-first-back-start c = some-start (first-back-some c)
 
 -- the others
 abbrev loop-back : tie.At-loop Inv-loop μ-loop → tie.After-slice-known2 Inv-loop μ-loop
@@ -50,6 +47,12 @@ loop-back c = c .before
 
 abbrev loop-first : tie.At-loop Inv-loop μ-loop → tie.After-render-field Inv-loop μ-loop
 loop-first c = back-first (loop-back c)
+
+abbrev loop-some : tie.At-loop Inv-loop μ-loop → tie.Else1 Inv-loop μ-loop
+loop-some c = first-some (loop-first c)
+
+abbrev loop-start : tie.At-loop Inv-loop μ-loop → tie.Start Inv-loop μ-loop
+loop-start c = some-start (loop-some c)
 
 abbrev turn-loop : tie.In-loop Inv-loop μ-loop → tie.At-loop Inv-loop μ-loop
 turn-loop c = c .before
@@ -63,26 +66,17 @@ to-field-loop c = turn-loop (to-field-turn c)
 abbrev field-lent : tie.After-render-field2 Inv-loop μ-loop → tie.After-render-field-arg2 Inv-loop μ-loop
 field-lent c = c .before
 
+abbrev field-turn : tie.After-render-field2 Inv-loop μ-loop → tie.In-loop Inv-loop μ-loop
+field-turn c = to-field-turn (field-lent c)
+
+abbrev field-loop : tie.After-render-field2 Inv-loop μ-loop → tie.At-loop Inv-loop μ-loop
+field-loop c = turn-loop (field-turn c)
+
 abbrev back-field : tie.After-slice-known3 Inv-loop μ-loop → tie.After-render-field2 Inv-loop μ-loop
 back-field c = c .before .before
 
-abbrev field-back-turn : tie.After-slice-known3 Inv-loop μ-loop → tie.In-loop Inv-loop μ-loop
-field-back-turn c = to-field-turn (field-lent (back-field c))
-
-abbrev field-back-loop : tie.After-slice-known3 Inv-loop μ-loop → tie.At-loop Inv-loop μ-loop
-field-back-loop c = turn-loop (field-back-turn c)
-
 abbrev done-loop : tie.After-loop Inv-loop μ-loop → tie.At-loop Inv-loop μ-loop
 done-loop c = c .before
-
-abbrev done-first : tie.After-loop Inv-loop μ-loop → tie.After-render-field Inv-loop μ-loop
-done-first c = loop-first (done-loop c)
-
-abbrev done-some : tie.After-loop Inv-loop μ-loop → tie.Else1 Inv-loop μ-loop
-done-some c = first-some (done-first c)
-
-abbrev done-start : tie.After-loop Inv-loop μ-loop → tie.Start Inv-loop μ-loop
-done-start c = some-start (done-some c)
 
 slice-write-out : tie.Need-slice-write-out Inv-loop μ-loop
 slice-write-out c = first-room (empty-start c .args .out .now) _ _ _ _ (fields-none _ (c .if1 .taken)) (empty-start c .pre)
@@ -107,7 +101,9 @@ render-field-requires c κs =
     begin-room (s .args .fields .now) (s .args .out .now) _ (to-first-some c .if1 .left) (s .pre)
 
 loop-holds : tie.Need-loop-holds Inv-loop μ-loop
-loop-holds c = more-begin _ _ _ (first-back-some c .if1 .left) (first-back-start c .pre) _ _ (back-first c .render-field .ensures)
+loop-holds c =
+    let here = back-first c in
+    more-begin _ _ _ (first-some here .if1 .left) (first-start here .pre) _ _ (here .render-field .ensures)
 
 slice-write-out-2 : tie.Need-slice-write-out-2 Inv-loop μ-loop
 slice-write-out-2 c = comma-room (turn-loop c .loop .inv) (c .loop-test .taken)
@@ -132,17 +128,21 @@ loop-less c = search needs
 
 loop-again : tie.Need-loop-again Inv-loop μ-loop
 loop-again c =
-    let f = back-field c .render-field2 in
-    more-on (field-back-loop c .loop .inv) (field-back-turn c .loop-test .taken) _ _ (f .ensures) (f .kept .1 .0)
+    let here = back-field c in
+    let f = here .render-field2 in
+    more-on (field-loop here .loop .inv) (field-turn here .loop-test .taken) _ _ (f .ensures) (f .kept .1 .0)
 
 same-length-2 : tie.Need-same-length-2 Inv-loop μ-loop
-same-length-2 c = done-loop c .loop .inv .same ∙ done-first c .render-field .kept .1 .0
+same-length-2 c =
+    let here = done-loop c in
+    here .loop .inv .same ∙ loop-first here .render-field .kept .1 .0
 
 returns-2 : tie.Need-returns-2 Inv-loop μ-loop
 returns-2 c =
-    let s = done-start c in
-    let more = more-done (done-loop c .loop .inv) (c .loop-test .left) in
-    fields-written (s .args .fields .now) _ _ (done-some c .if1 .left) (s .pre) _ _ (done-first c .render-field .ensures) _ _ more
+    let here = done-loop c in
+    let s = loop-start here in
+    let more = more-done (here .loop .inv) (c .loop-test .left) in
+    fields-written (s .args .fields .now) _ _ (loop-some here .if1 .left) (s .pre) _ _ (loop-first here .render-field .ensures) _ _ more
 
 pub render-fields-spec : {M : Type 1} → statement M
 render-fields-spec =

@@ -40,14 +40,14 @@ to-size-start c = down-start (to-size-down c)
 abbrev size-lent : tie.After-render-decimal2 → tie.After-render-decimal-arg2
 size-lent c = c .before
 
+abbrev size-down : tie.After-render-decimal2 → tie.Else1
+size-down c = to-size-down (size-lent c)
+
+abbrev size-start : tie.After-render-decimal2 → tie.Start
+size-start c = down-start (size-down c)
+
 abbrev back-size : tie.After-slice-known3 → tie.After-render-decimal2
 back-size c = c .before .before
-
-abbrev size-back-down : tie.After-slice-known3 → tie.Else1
-size-back-down c = to-size-down (size-lent (back-size c))
-
-abbrev size-back-start : tie.After-slice-known3 → tie.Start
-size-back-start c = down-start (size-back-down c)
 
 render-decimal-requires : tie.Need-render-decimal-requires
 render-decimal-requires c κs = rw (key-up _ (to-number-up c .if1 .taken)) at (to-number-start c .pre)
@@ -71,10 +71,14 @@ render-decimal-requires-2 : tie.Need-render-decimal-requires-2
 render-decimal-requires-2 c κs = rest-room (to-size-start c .args .out .now) _ _ _ _ (key-down _ (to-size-down c .if1 .left)) (to-size-start c .pre)
 
 same-length-2 : tie.Need-same-length-2
-same-length-2 c = back-size c .render-decimal2 .kept .1 .0 ∙ length-set (size-back-start c .args .out .now) _ _
+same-length-2 c =
+    let here = back-size c in
+    here .render-decimal2 .kept .1 .0 ∙ length-set (size-start here .args .out .now) _ _
 
 returns-2 : tie.Need-returns-2
-returns-2 c = written-rest _ _ _ _ _ (key-down _ (size-back-down c .if1 .left)) (size-back-start c .pre) (back-size c .render-decimal2 .ensures)
+returns-2 c =
+    let here = back-size c in
+    written-rest _ _ _ _ _ (key-down _ (size-down here .if1 .left)) (size-start here .pre) (here .render-decimal2 .ensures)
 
 pub render-key-spec : {M : Type 1} → statement M
 render-key-spec =

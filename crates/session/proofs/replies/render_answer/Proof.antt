@@ -27,14 +27,14 @@ to-done-start c = is-done-start (to-done-is-done c)
 abbrev done-lent : tie.After-place → tie.After-place-arg2
 done-lent c = c .before
 
+abbrev done-is-done : tie.After-place → tie.After-enum-told
+done-is-done c = to-done-is-done (done-lent c)
+
+abbrev done-start : tie.After-place → tie.Start
+done-start c = is-done-start (done-is-done c)
+
 abbrev back-done : tie.After-slice-known2 → tie.After-place
 back-done c = c .before .before
-
-abbrev done-back-is-done : tie.After-slice-known2 → tie.After-enum-told
-done-back-is-done c = to-done-is-done (done-lent (back-done c))
-
-abbrev done-back-start : tie.After-slice-known2 → tie.Start
-done-back-start c = is-done-start (done-back-is-done c)
 
 -- found
 abbrev is-found-start : tie.After-enum-told2 → tie.Start
@@ -49,14 +49,14 @@ to-found-start c = is-found-start (to-found-is-found c)
 abbrev found-lent : tie.After-place2 → tie.After-place-arg4
 found-lent c = c .before
 
+abbrev found-is-found : tie.After-place2 → tie.After-enum-told2
+found-is-found c = to-found-is-found (found-lent c)
+
+abbrev found-start : tie.After-place2 → tie.Start
+found-start c = is-found-start (found-is-found c)
+
 abbrev back-found : tie.After-slice-known3 → tie.After-place2
 back-found c = c .before .before
-
-abbrev found-back-is-found : tie.After-slice-known3 → tie.After-enum-told2
-found-back-is-found c = to-found-is-found (found-lent (back-found c))
-
-abbrev found-back-start : tie.After-slice-known3 → tie.Start
-found-back-start c = is-found-start (found-back-is-found c)
 
 -- none
 abbrev is-none-start : tie.After-enum-told3 → tie.Start
@@ -71,14 +71,14 @@ to-none-start c = is-none-start (to-none-is-none c)
 abbrev none-lent : tie.After-place3 → tie.After-place-arg6
 none-lent c = c .before
 
+abbrev none-is-none : tie.After-place3 → tie.After-enum-told3
+none-is-none c = to-none-is-none (none-lent c)
+
+abbrev none-start : tie.After-place3 → tie.Start
+none-start c = is-none-start (none-is-none c)
+
 abbrev back-none : tie.After-slice-known4 → tie.After-place3
 back-none c = c .before .before
-
-abbrev none-back-is-none : tie.After-slice-known4 → tie.After-enum-told3
-none-back-is-none c = to-none-is-none (none-lent (back-none c))
-
-abbrev none-back-start : tie.After-slice-known4 → tie.Start
-none-back-start c = is-none-start (none-back-is-none c)
 
 -- a refusal
 abbrev refused-start : tie.After-answer → tie.Start
@@ -111,20 +111,20 @@ to-number-start c = told-start (to-number-told c)
 abbrev number-lent : tie.After-render-decimal → tie.After-render-decimal-arg
 number-lent c = c .before
 
+abbrev number-no : tie.After-render-decimal → tie.After-place4
+number-no c = to-number-no (number-lent c)
+
+abbrev number-told : tie.After-render-decimal → tie.After-known-told
+number-told c = to-no-told (no-lent (number-no c))
+
+abbrev number-refused : tie.After-render-decimal → tie.After-answer
+number-refused c = told-refused (number-told c)
+
+abbrev number-start : tie.After-render-decimal → tie.Start
+number-start c = refused-start (number-refused c)
+
 abbrev back-number : tie.After-slice-known6 → tie.After-render-decimal
 back-number c = c .before .before
-
-abbrev number-back-no : tie.After-slice-known6 → tie.After-place4
-number-back-no c = to-number-no (number-lent (back-number c))
-
-abbrev number-back-told : tie.After-slice-known6 → tie.After-known-told
-number-back-told c = to-no-told (no-lent (number-back-no c))
-
-abbrev number-back-refused : tie.After-slice-known6 → tie.After-answer
-number-back-refused c = told-refused (number-back-told c)
-
-abbrev number-back-start : tie.After-slice-known6 → tie.Start
-number-back-start c = refused-start (number-back-refused c)
 
 -- the room for an answer's text, and that it is written, where the answer is known
 module _ (s : tie.Start) {a : Answer} (e : s .args .answer ≡ a) where
@@ -201,21 +201,27 @@ same-length c = search needs
 
 returns : tie.Need-returns
 unfolding answerText
-returns c = answered (done-back-start c) (done-back-is-done c .enum-told .given .1) (back-done c .place .ensures)
+returns c =
+    let here = back-done c in
+    answered (done-start here) (done-is-done here .enum-told .given .1) (here .place .ensures)
 
 same-length-2 : tie.Need-same-length-2
 same-length-2 c = search needs
 
 returns-2 : tie.Need-returns-2
 unfolding answerText
-returns-2 c = answered (found-back-start c) (found-back-is-found c .enum-told2 .given .1) (back-found c .place2 .ensures)
+returns-2 c =
+    let here = back-found c in
+    answered (found-start here) (found-is-found here .enum-told2 .given .1) (here .place2 .ensures)
 
 same-length-3 : tie.Need-same-length-3
 same-length-3 c = search needs
 
 returns-3 : tie.Need-returns-3
 unfolding answerText
-returns-3 c = answered (none-back-start c) (none-back-is-none c .enum-told3 .given .1) (back-none c .place3 .ensures)
+returns-3 c =
+    let here = back-none c in
+    answered (none-start here) (none-is-none here .enum-told3 .given .1) (here .place3 .ensures)
 
 same-length-4 : tie.Need-same-length-4
 same-length-4 c = search needs
@@ -223,11 +229,12 @@ same-length-4 c = search needs
 returns-4 : tie.Need-returns-4
 unfolding answerText
 returns-4 c =
-    let a = number-back-start c .args in
-    let t = number-back-told c in
-    let n = back-number c .render-decimal in
-    let both = written-both (a .out .now) (a .at) noText (decimal (refusal t)) (refused-room t) _ _ _ _ (number-back-no c .place4 .ensures) (n .ensures) in
-    answered (number-back-start c) (told-refused t .answer .given .1) both
+    let here = back-number c in
+    let a = number-start here .args in
+    let t = number-told here in
+    let n = here .render-decimal in
+    let both = written-both (a .out .now) (a .at) noText (decimal (refusal t)) (refused-room t) _ _ _ _ (number-no here .place4 .ensures) (n .ensures) in
+    answered (number-start here) (told-refused t .answer .given .1) both
 
 pub render-answer-spec : {M : Type 1} → statement M
 render-answer-spec =
