@@ -11,7 +11,8 @@ use Rattle.rules.specs.Lists.{keep, first, without, All}
 use Rattle.rules.specs.Names.{Name}
 use Rattle.rules.specs.Matching.{storedPair, Entry, Op, reading, taking, matches}
 use Rattle.rules.specs.State.{State, holds, withEntries, wrote, live}
-use Rattle.rules.specs.Calls.{Call, put, seek, firstThatApplies, putNames, seekNames, putTable, seekTable, table, Outcome, decided, entryOf, remaining, gained, finding, serve, step}
+use Rattle.rules.specs.Calls.{Call, put, seek, firstThatApplies, putNames, seekNames, putTable, seekTable, table}
+use Rattle.rules.specs.Calls.{Outcome, decided, entryOf, remaining, gained, finding, serve, step}
 use Rattle.rules.specs.Group.{Group, member, byGroup, CallInGrasp, unrefused, groupEntries}
 use Rattle.rules.proofs.BitLaws.{tOf, eqb-true}
 use Rattle.rules.proofs.ListLaws.{and-left, all-same, All-map, keep-append, first-keep, without-keep, without-others, keep-keep}

@@ -149,7 +149,8 @@ sound-facts ws h =
     let a₀ : Bool = all (λ w. bit w defaultPartition) (decode ws .partitions) in
     let a₁ : Bool = all (λ w. bit w defaultKey) (decode ws .keys) in
     let a₂ : Bool = all (λ w. not (bit w 63)) (decode ws .keys) in
-    let q = each (eqb (length ws) 1809) (leb (getD ws 0 0) 128 ∷ joined a₀ (a₁ ∷ a₂ ∷ []) ∷ rowsOk (getD ws 0 0) (drop 17 ws) ∷ withinLimits (decode ws) ∷ []) h in
+    let rest = leb (getD ws 0 0) 128 ∷ joined a₀ (a₁ ∷ a₂ ∷ []) ∷ rowsOk (getD ws 0 0) (drop 17 ws) ∷ withinLimits (decode ws) ∷ [] in
+    let q = each (eqb (length ws) 1809) rest h in
     let v = each a₀ (a₁ ∷ a₂ ∷ []) (q .1 .1 .0) in
     record {
       len = eqb-true (length ws) 1809 (q .0);

@@ -4,7 +4,8 @@ use mathlib.Core.Logic.{_⊎_, inl, inr}
 use mathlib.Core.Bool.{Bool, true, false}
 use mathlib.Core.List.{List, [], _∷_}
 use Prim.Native.Nat.{ℕ, zero, suc, _+_, _-_, _*_, _/_, _%_, _^_, _≤_, _<_, max}
-use native.Mathlib.Nat.{mod-lt, div-eq-of-lt, lt-of-lt-of-le, mul-mod-left, max-le, le-of-suc-le-suc, pow-suc, max-eq-left, max-eq-right, zero-max, zero-lt-suc, one-mul}
+use native.Mathlib.Nat.{mod-lt, div-eq-of-lt, lt-of-lt-of-le, mul-mod-left, le-of-suc-le-suc, pow-suc, zero-lt-suc, one-mul}
+use native.Mathlib.Nat.{max-le, max-eq-left, max-eq-right, zero-max}
 use native.Mathlib.Decide.{decLt}
 use native.Mathlib.Omega.{arith}
 use Prim.Native.Nat.{suc-le-suc}
@@ -60,7 +61,9 @@ max-one (suc zero) b h e = inl refl
 max-one (suc (suc a)) b h e = absurd (omega arith)
 
 pub bit-with : (w c d : ℕ) → bit (withBit w c) d ≡ true → (bit w d ≡ true) ⊎ (c ≡ d)
-bit-with w c d h = go (max-one (w / 2 ^ d % 2) (2 ^ c / 2 ^ d % 2) (mod-lt (w / 2 ^ d) (zero-lt-suc 1)) (sym (or-bit w (2 ^ c) d) ∙ eqb-true (withBit w c / 2 ^ d % 2) 1 h))
+bit-with w c d h =
+    let e : max (w / 2 ^ d % 2) (2 ^ c / 2 ^ d % 2) ≡ 1 = sym (or-bit w (2 ^ c) d) ∙ eqb-true (withBit w c / 2 ^ d % 2) 1 h in
+    go (max-one (w / 2 ^ d % 2) (2 ^ c / 2 ^ d % 2) (mod-lt (w / 2 ^ d) (zero-lt-suc 1)) e)
   where
     go : (w / 2 ^ d % 2 ≡ 1) ⊎ (2 ^ c / 2 ^ d % 2 ≡ 1) → (bit w d ≡ true) ⊎ (c ≡ d)
     go (inl e) = inl (rw e refl)

@@ -108,7 +108,11 @@ put-words s e h l =
 pub take-words : (s : State) (es : List Entry) (e : Entry) (fs : List Entry) → WF s → s .entries ≡ es ++ (e ∷ fs)
     → All EntryOk es → All EntryOk (e ∷ fs) → length (s .entries) ≤ 128
     → encode (withEntries (es ++ fs) s)
-    ≡ set (take (17 + 14 * length es) (encode s) ++ ((drop 14 (take (14 * (length (s .entries) - length es)) (drop (17 + 14 * length es) (encode s))) ++ zeros 14) ++ drop (17 + 14 * length (s .entries)) (encode s))) 0 (length (s .entries) - 1)
+    ≡ set
+    (take (17 + 14 * length es) (encode s)
+    ++ ((drop 14 (take (14 * (length (s .entries) - length es)) (drop (17 + 14 * length es) (encode s))) ++ zeros 14)
+    ++ drop (17 + 14 * length (s .entries)) (encode s)))
+    0 (length (s .entries) - 1)
 take-words s es e fs h q oks okr l =
     let n : ℕ = length (s .entries) in
     let i : ℕ = length es in
@@ -187,7 +191,10 @@ module _ (ws : List ℕ) (h : sound ws ≡ true) where
 
   pub take-edit : (r : ℕ) → r < getD ws 0 0
       → encode (withEntries (take r (decode ws .entries) ++ drop (suc r) (decode ws .entries)) (decode ws))
-      ≡ set (take (17 + 14 * r) ws ++ ((drop 14 (take (14 * (getD ws 0 0 - r)) (drop (17 + 14 * r) ws)) ++ zeros 14) ++ drop (17 + 14 * getD ws 0 0) ws)) 0 (getD ws 0 0 - 1)
+      ≡ set
+      (take (17 + 14 * r) ws
+      ++ ((drop 14 (take (14 * (getD ws 0 0 - r)) (drop (17 + 14 * r) ws)) ++ zeros 14) ++ drop (17 + 14 * getD ws 0 0) ws))
+      0 (getD ws 0 0 - 1)
   take-edit r l =
       let es : List Entry = decode ws .entries in
       let e : Entry = entryAt (drop (14 * r) (drop 17 ws)) in
@@ -195,4 +202,5 @@ module _ (ws : List ℕ) (h : sound ws ≡ true) where
       let i : length (take r es) ≡ r = length-take r es ∙ omega arith in
       let q : es ≡ take r es ++ (e ∷ drop (suc r) es) = sym (rw (← (entry-at ws r l)) (take-append-drop r es)) in
       let ok = All-split EntryOk (take r es) (e ∷ drop (suc r) es) (subst (All EntryOk) q (wf-decode ws h .rows)) in
-      rw (encode-decode ws h, i, k) at (take-words (decode ws) (take r es) e (drop (suc r) es) (wf-decode ws h) q (ok .0) (ok .1) (omega (arith, sound-facts ws h .count)))
+      let few : length es ≤ 128 = omega (arith, sound-facts ws h .count) in
+      rw (encode-decode ws h, i, k) at (take-words (decode ws) (take r es) e (drop (suc r) es) (wf-decode ws h) q (ok .0) (ok .1) few)

@@ -15,7 +15,8 @@ use Rattle.rules.specs.Names.{Name, partition, key, keyInRange, coStored
 use Rattle.rules.specs.Fields.{namesIn}
 use Rattle.rules.specs.Matching.{Pair, storedPair, Entry, Op, reading, taking, pairFor, fieldsAgree, partitionsAgree, keysAgree, matches}
 use Rattle.rules.specs.State.{State, holds, give, giveAll, withEntries}
-use Rattle.rules.specs.Calls.{Call, put, seek, partyOf, firstThatApplies, badPair, putNames, seekNames, putTable, seekTable, table, entryOf, remaining, gained, finding, serve, step}
+use Rattle.rules.specs.Calls.{Call, put, seek, partyOf, firstThatApplies, badPair, putNames, seekNames, putTable, seekTable, table}
+use Rattle.rules.specs.Calls.{entryOf, remaining, gained, finding, serve, step}
 use Rattle.rules.specs.Group.{Group, member, byGroup, Reaches, EntryInGrasp, CallInGrasp, unrefused}
 use Rattle.rules.proofs.BitLaws.{eqb-true}
 use Rattle.rules.proofs.ListLaws.{bool, clash, and-left, and-right, or-right, not-false, passed, all-true, All-map, All-snoc, All-without, first-All}
@@ -170,8 +171,8 @@ module _ (g : Group) (N : Name → Type 0) where
       go none f = h
       go (some x) f =
           let r : Apart g N x × (m x ≡ true) = first-All (Apart g N) m (s .entries) x (h .apart) f in
-          let w : member g (x .writer) ≡ true =
-          elim (bool (member g (x .writer))) [ inl y ↦ y | inr z ↦ clash (m x) (r .1) (theirs-miss N (storedPair p) t x op (r .0 .theirs z) (a .0, a .1 .0)) ] in
+          let miss : member g (x .writer) ≡ false → m x ≡ false = λ z. theirs-miss N (storedPair p) t x op (r .0 .theirs z) (a .0, a .1 .0) in
+          let w : member g (x .writer) ≡ true = elim (bool (member g (x .writer))) [ inl y ↦ y | inr z ↦ clash (m x) (r .1) (miss z) ] in
           closed-give who (gained op x) (withEntries (remaining op m (s .entries)) s) (r .0 .ours w .carried) (closed-remaining op m s h)
 
   pub closed-own : (s : State) (c : Call ℕ) → Closed g N s → byGroup g c ≡ true → Closed g N (step s c .state)

@@ -15,7 +15,8 @@ use Rattle.rules.specs.Names.{Name, partition, key, keyInRange, bit, wit
 use Rattle.rules.specs.Fields.{Field, message, name, wildcard, bad, fieldOf, field, putField, nameIn, namesIn}
 use Rattle.rules.specs.Matching.{Pair, storedPair, Entry, Op, reading, taking, matches}
 use Rattle.rules.specs.State.{State, give, giveAll, withEntries, wrote, live, limitOf}
-use Rattle.rules.specs.Calls.{Call, put, seek, firstThatApplies, badPair, putTable, table, entryOf, remaining, gained, finding, serve, decided, step, opened}
+use Rattle.rules.specs.Calls.{Call, put, seek, firstThatApplies, badPair, putTable, table}
+use Rattle.rules.specs.Calls.{entryOf, remaining, gained, finding, serve, decided, step, opened}
 use Rattle.rules.proofs.BitLaws.{tOf, eqb-true, eqb-same, bit-with, bit-kept, bit-self}
 use Rattle.rules.proofs.ListLaws.{bool, clash, and-left, and-right, or-left, or-right, not-false, passed, All-map, All-snoc, All-without, keep-append}
 use Rattle.rules.proofs.KeyLaws.{stored-le}

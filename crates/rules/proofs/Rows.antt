@@ -162,4 +162,5 @@ sound-encode s h few =
       enc-rows s h few,
       rows-ok (s .entries) (h .rows) (14 * (128 - length (s .entries))),
     )
-    (rw (leb-true (h .limits 0), leb-true (h .limits 1), leb-true (h .limits 2), leb-true (h .limits 3), leb-true (h .limits 4), leb-true (h .limits 5), leb-true (h .limits 6), leb-true (h .limits 7)) refl)
+    (let within : (who : ℕ) → leb (live who (s .entries)) 16 ≡ true = λ who. leb-true (h .limits who) in
+    rw (within 0, within 1, within 2, within 3, within 4, within 5, within 6, within 7) refl)
