@@ -1,4 +1,4 @@
--- `field_agrees` meets its contract.
+-- `field_agrees` meets its contract: the wildcard is the one word 3 × 2^32.
 use mathlib.Core.Path.{sym, ap}
 use mathlib.Core.Bool.{Bool, _||_}
 use lib.Dec.{eqb}

@@ -1,13 +1,32 @@
--- `field_held` meets its contract.
-use mathlib.Core.Path.{sym, ap, _∙_}
+-- `field_held` meets its contract: `field_of` says what the word is, and each arm tests the name that a field of that kind carries, if any.
+use mathlib.Core.Path.{_≡_, sym, ap, _∙_}
 use Rattle.words.specs.Kind.{meant}
+use Rattle.words.specs.declared.Field.{Field as Kind}
 use Rattle.rules.specs.Lists.{all}
 use Rattle.rules.specs.Names.{heldIn}
-use Rattle.rules.specs.Fields.{Field, nameIn}
+use Rattle.rules.specs.Fields.{Field, field, nameIn}
 use Rattle.rules.proofs.FieldLaws.{held-name}
 use borrow.Author.Needs.{needs}
 use Rattle.words.proofs.field_held.Statement.{statement}
 use Rattle.words.proofs.field_held.Tie as tie
+
+-- the places of the walk, each by its way to the one before it: where the kind is known, and where a name's bit is tested
+abbrev kind-start : tie.After-field-of → tie.Start
+kind-start c = c .before
+
+abbrev partition-known : tie.After-has-bit → tie.After-f
+partition-known c = c .before .before
+
+abbrev key-known : tie.After-has-bit2 → tie.After-f2
+key-known c = c .before .before
+
+-- a word that `field_of` found to be f asks for the names that f carries
+kind-decides : (c : tie.After-field-of) (f : Kind) → c .field-of .result ≡ f
+    → let a = kind-start c .args in
+    all (heldIn (a .partitions) (a .keys)) (nameIn (meant f)) ≡ all (heldIn (a .partitions) (a .keys)) (nameIn (field (a .w)))
+kind-decides c f e =
+    let a = kind-start c .args in
+    ap (λ (x : Field). all (heldIn (a .partitions) (a .keys)) (nameIn x)) (ap meant (sym e) ∙ c .field-of .ensures)
 
 field-of-requires : tie.Need-field-of-requires
 field-of-requires c κs = search needs
@@ -34,26 +53,25 @@ enum-told-3 : tie.Need-enum-told-3
 enum-told-3 c = search needs
 
 returns : tie.Need-returns
-unfolding heldIn
-returns c = ap (λ (f : Field). all (heldIn (c .before .before .before .args .partitions) (c .before .before .before .args .keys)) (nameIn f)) (ap meant (sym (c .enum-told .given .1)) ∙ c .before .before .field-of .ensures)
+returns c = kind-decides (c .before .before) _ (c .enum-told .given .1)
 
 returns-2 : tie.Need-returns-2
 unfolding heldIn
 returns-2 c =
-    c .has-bit .ensures ∙ held-name _ _ _ _ (sym (c .before .before .before .before .field-of .ensures) ∙ ap meant (c .before .before .f .given .1))
+    let known = partition-known c in
+    c .has-bit .ensures ∙ held-name _ _ _ _ (sym (known .before .before .field-of .ensures) ∙ ap meant (known .f .given .1))
 
 returns-3 : tie.Need-returns-3
 unfolding heldIn
 returns-3 c =
-    c .has-bit2 .ensures ∙ held-name _ _ _ _ (sym (c .before .before .before .before .field-of .ensures) ∙ ap meant (c .before .before .f2 .given .1))
+    let known = key-known c in
+    c .has-bit2 .ensures ∙ held-name _ _ _ _ (sym (known .before .before .field-of .ensures) ∙ ap meant (known .f2 .given .1))
 
 returns-4 : tie.Need-returns-4
-unfolding heldIn
-returns-4 c = ap (λ (f : Field). all (heldIn (c .before .before .before .args .partitions) (c .before .before .before .args .keys)) (nameIn f)) (ap meant (sym (c .enum-told2 .given .1)) ∙ c .before .before .field-of .ensures)
+returns-4 c = kind-decides (c .before .before) _ (c .enum-told2 .given .1)
 
 returns-5 : tie.Need-returns-5
-unfolding heldIn
-returns-5 c = ap (λ (f : Field). all (heldIn (c .before .before .before .args .partitions) (c .before .before .before .args .keys)) (nameIn f)) (ap meant (sym (c .enum-told3 .given .1)) ∙ c .before .before .field-of .ensures)
+returns-5 c = kind-decides (c .before .before) _ (c .enum-told3 .given .1)
 
 pub field-held-spec : {M : Type 1} → statement M
 field-held-spec =

@@ -1,4 +1,4 @@
--- `field_of` meets its contract.
+-- `field_of` meets its contract: the kinds and the ranges that its arms test are those of `field`.
 use borrow.Author.Tests.{ne-eqb, lt-ltb, le-ltb, eq-eqb}
 use Rattle.rules.specs.Fields.{field}
 use Rattle.words.proofs.field_of.Statement.{statement}

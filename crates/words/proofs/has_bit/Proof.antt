@@ -1,4 +1,4 @@
--- `has_bit` meets its contract.
+-- `has_bit` meets its contract: below 64 the code computes what `bit` says, and no word has a bit past 63.
 use Rattle.rules.proofs.BitLaws.{no-bit}
 use borrow.Author.Needs.{needs}
 use Rattle.words.proofs.has_bit.Statement.{statement}

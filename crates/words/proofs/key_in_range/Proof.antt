@@ -1,4 +1,4 @@
--- `key_in_range` meets its contract.
+-- `key_in_range` meets its contract: the machine reads the key back from its bits unchanged, and tests it as `keyInRange` does.
 use mir.Facts.{toZ-ofZ}
 use mir.Syntax.{w32}
 use Rattle.words.proofs.key_in_range.Statement.{statement}

@@ -1,4 +1,4 @@
--- `stored_co_key` meets its contract.
+-- `stored_co_key` meets its contract: the negation of a key in range is in range, so it fits into the 32 bits, and so does it + 31.
 use native.Mathlib.Omega.{arith}
 use lib.IntN.{negℤ, +ℤ-idl}
 use mir.Facts.{toZ-ofZ}

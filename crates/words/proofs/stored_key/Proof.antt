@@ -1,4 +1,4 @@
--- `stored_key` meets its contract.
+-- `stored_key` meets its contract: a key in range fits into the 32 bits, and so does the key + 31.
 use native.Mathlib.Omega.{arith}
 use mir.Facts.{toZ-ofZ}
 use mir.Syntax.{w32}

@@ -1,11 +1,18 @@
--- `template_field` meets its contract.
-use mathlib.Core.Path.{sym, ap, _∙_}
+-- `template_field` meets its contract: `field_of` says what the word is, and each arm answers as `templateField` does of that kind.
+use mathlib.Core.Path.{_≡_, sym, ap, _∙_}
 use Rattle.words.specs.Kind.{meant}
+use Rattle.words.specs.declared.Field.{Field as Kind}
 use mathlib.Core.Bool.{_||_}
 use Rattle.rules.specs.Fields.{Field, isData, isWildcard, templateField}
 use borrow.Author.Needs.{needs}
 use Rattle.words.proofs.template_field.Statement.{statement}
 use Rattle.words.proofs.template_field.Tie as tie
+
+-- a word that `field_of` found to be f may stand in a template as f may
+kind-decides : (c : tie.After-field-of) (f : Kind) → c .field-of .result ≡ f
+    → (isData (meant f) || isWildcard (meant f)) ≡ templateField (c .before .args .w)
+unfolding templateField
+kind-decides c f e = ap (λ (x : Field). isData x || isWildcard x) (ap meant (sym e) ∙ c .field-of .ensures)
 
 field-of-requires : tie.Need-field-of-requires
 field-of-requires c κs = search needs
@@ -26,24 +33,19 @@ enum-told-5 : tie.Need-enum-told-5
 enum-told-5 c = search needs
 
 returns : tie.Need-returns
-unfolding templateField
-returns c = ap (λ (f : Field). isData f || isWildcard f) (ap meant (sym (c .enum-told .given .1)) ∙ c .before .before .field-of .ensures)
+returns c = kind-decides (c .before .before) _ (c .enum-told .given .1)
 
 returns-2 : tie.Need-returns-2
-unfolding templateField
-returns-2 c = ap (λ (f : Field). isData f || isWildcard f) (ap meant (sym (c .enum-told2 .given .1)) ∙ c .before .before .field-of .ensures)
+returns-2 c = kind-decides (c .before .before) _ (c .enum-told2 .given .1)
 
 returns-3 : tie.Need-returns-3
-unfolding templateField
-returns-3 c = ap (λ (f : Field). isData f || isWildcard f) (ap meant (sym (c .enum-told3 .given .1)) ∙ c .before .before .field-of .ensures)
+returns-3 c = kind-decides (c .before .before) _ (c .enum-told3 .given .1)
 
 returns-4 : tie.Need-returns-4
-unfolding templateField
-returns-4 c = ap (λ (f : Field). isData f || isWildcard f) (ap meant (sym (c .enum-told4 .given .1)) ∙ c .before .before .field-of .ensures)
+returns-4 c = kind-decides (c .before .before) _ (c .enum-told4 .given .1)
 
 returns-5 : tie.Need-returns-5
-unfolding templateField
-returns-5 c = ap (λ (f : Field). isData f || isWildcard f) (ap meant (sym (c .enum-told5 .given .1)) ∙ c .before .before .field-of .ensures)
+returns-5 c = kind-decides (c .before .before) _ (c .enum-told5 .given .1)
 
 pub template-field-spec : {M : Type 1} → statement M
 template-field-spec =

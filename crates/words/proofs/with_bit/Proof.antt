@@ -1,4 +1,4 @@
--- `with_bit` meets its contract.
+-- `with_bit` meets its contract: 1 shifted by c is 2 ^ c, since c is below 64.
 use Prim.Native.Nat.{_^_}
 use native.Mathlib.Nat.{one-mul, mod-eq-of-lt}
 use lib.Pow.{pow-lt}
