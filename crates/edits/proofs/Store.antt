@@ -23,10 +23,12 @@ past-seam : (xs ys : List ℕ) (i n : ℕ) → length xs ≡ i → getD (xs ++ y
 past-seam xs ys i n e = rw (← e) (getD-append-add xs ys n 0)
 
 -- a list that is moved up by k from the front
-pub move-more : (d p : List ℕ) (i k : ℕ) → p ≡ take i (drop k d) ++ drop i d → i + k < length d → set p i (getD p (i + k) 0) ≡ take (i + 1) (drop k d) ++ drop (i + 1) d
+pub move-more : (d p : List ℕ) (i k : ℕ) → p ≡ take i (drop k d) ++ drop i d → i + k < length d
+    → set p i (getD p (i + k) 0) ≡ take (i + 1) (drop k d) ++ drop (i + 1) d
 move-more d p i k h l =
     let n : length (take i (drop k d)) ≡ i = simp (length-take, length-drop) (omega arith) in
-    let v : getD p (i + k) 0 ≡ getD (drop k d) i 0 = rw (h, past-seam (take i (drop k d)) (drop i d) i k n, getD-drop i d k 0, getD-drop k d i 0) (ap (λ (j : ℕ). getD d j 0) (add-comm i k)) in
+    let v : getD p (i + k) 0 ≡ getD (drop k d) i 0 =
+    rw (h, past-seam (take i (drop k d)) (drop i d) i k n, getD-drop i d k 0, getD-drop k d i 0) (ap (λ (j : ℕ). getD d j 0) (add-comm i k)) in
     store (drop k d) d p i _ h v (simp length-drop (omega arith)) (omega arith)
 
 -- all of the rest is moved up

@@ -1,4 +1,5 @@
--- `add_row` meets its contract.
+-- `add_row` meets its contract: the row past the live ones is written and word 0 is more by one, which is how the words of a
+-- sound space change where an entry comes last.
 use Prim.Native.Nat.{_+_, _*_}
 use mathlib.Core.Path.{_≡_, sym}
 use native.Mathlib.Omega.{arith}
@@ -11,8 +12,21 @@ use borrow.Author.Needs.{needs}
 use Rattle.edits.proofs.add_row.Statement.{statement}
 use Rattle.edits.proofs.add_row.Tie as tie
 
+-- the places of the walk, each by its way to the one before it: the count read, the row written, the count written
+abbrev read-start : tie.After-slice-known2 → tie.Start
+read-start c = c .before .before .before
+
+abbrev row-read : tie.After-write-row → tie.After-slice-known2
+row-read c = c .before .before
+
+abbrev written-row : tie.After-slice-known3 → tie.After-write-row
+written-row c = c .before .before
+
+abbrev written-start : tie.After-slice-known3 → tie.Start
+written-start c = read-start (row-read (written-row c))
+
 slice-read-live : tie.Need-slice-read-live
-slice-read-live c = let len = sound-facts _ (c .before .before .before .pre .0) .len in search needs
+slice-read-live c = let len = sound-facts _ (read-start c .pre .0) .len in search needs
 
 mul-at : tie.Need-mul-at
 mul-at c = search needs
@@ -33,7 +47,7 @@ part-write-row-start : tie.Need-part-write-row-start
 part-write-row-start c = search needs
 
 part-write-row-end : tie.Need-part-write-row-end
-part-write-row-end c = let len = sound-facts _ (c .before .before .before .pre .0) .len in search needs
+part-write-row-end c = let len = sound-facts _ (read-start c .pre .0) .len in search needs
 
 write-row-requires : tie.Need-write-row-requires
 write-row-requires c κs = search needs
@@ -42,21 +56,21 @@ add-space : tie.Need-add-space
 add-space c = search needs
 
 slice-write-space : tie.Need-slice-write-space
-slice-write-space c = let len = sound-facts _ (c .before .before .before .before .before .before .before .pre .0) .len in search needs
+slice-write-space c = let len = sound-facts _ (written-start c .pre .0) .len in search needs
 
 same-length : tie.Need-same-length
 same-length c = search needs
 
 returns : tie.Need-returns
 returns c =
-    let a = c .before .before .before .before .before .before .before .args in
+    let start = written-start c in
+    let a = start .args in
     let ws = a .space .now in
-    let h = c .before .before .before .before .before .before .before .pre .0 in
-    let len = sound-facts ws h .len in
+    let len = sound-facts ws (start .pre .0) .len in
     let at = 17 + 14 * getD ws 0 0 in
     let e : at + 14 ≡ 31 + 14 * getD ws 0 0 = omega arith in
-    rw (c .before .before .write-row .ensures, post-is at (at + 14) ws (omega arith), e)
-    (sym (put-edit ws h (entry (a .writer) (a .rpart) (a .rkey) (a .tpart) (a .tkey) (a .fields .now)) (omega arith)))
+    rw (written-row c .write-row .ensures, post-is at (at + 14) ws (omega arith), e)
+    (sym (put-edit ws (start .pre .0) (entry (a .writer) (a .rpart) (a .rkey) (a .tpart) (a .tkey) (a .fields .now)) (omega arith)))
 
 pub add-row-spec : {M : Type 1} → statement M
 add-row-spec =

@@ -1,4 +1,4 @@
--- `clear` meets its contract.
+-- `clear` meets its contract: at i the first i words are 0, and the rest are as they were.
 use Rattle.rules.specs.Words.{zeros}
 use Prim.Native.Nat.{_≤_, _-_}
 use mathlib.Core.Path.{_≡_, refl, _∙_}
@@ -16,6 +16,10 @@ Inv-loop part₀ i₀ part i = (i ≤ length part₀) × (length part ≡ length
 abbrev μ-loop : tie.MeasureT-loop
 μ-loop part₀ i₀ part i = length part₀ - i
 
+-- the place of the walk where a turn of the loop begins, by its way to the start
+abbrev turn-start : tie.At-loop Inv-loop μ-loop → tie.Start Inv-loop μ-loop
+turn-start c = c .before
+
 loop-holds : tie.Need-loop-holds Inv-loop μ-loop
 loop-holds c = (search needs, search needs, refl)
 
@@ -32,7 +36,9 @@ loop-less : tie.Need-loop-less Inv-loop μ-loop
 loop-less c = search needs
 
 loop-again : tie.Need-loop-again Inv-loop μ-loop
-loop-again c = (search needs, simp length-set (search needs), rw (c .before .loop .inv .2) (fill-more (c .before .loop .i) 0 (c .before .before .args .part .now) (search needs)))
+loop-again c =
+    let turn = c .before in
+    (search needs, simp length-set (search needs), rw (turn .loop .inv .2) (fill-more (turn .loop .i) 0 (turn-start turn .args .part .now) (search needs)))
 
 same-length : tie.Need-same-length Inv-loop μ-loop
 same-length c = search needs
@@ -40,7 +46,7 @@ same-length c = search needs
 returns : tie.Need-returns Inv-loop μ-loop
 unfolding zeros
 returns c =
-    let d = c .before .before .args .part .now in
+    let d = turn-start (c .before) .args .part .now in
     let all : c .before .loop .i ≡ length d = omega arith in
     let past : length d ≤ c .before .loop .i = omega arith in
     c .before .loop .inv .2 ∙ rw (drop-of-length-le d past, append-nil, all)

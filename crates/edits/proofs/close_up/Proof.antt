@@ -1,4 +1,5 @@
--- `close_up` meets its contract.
+-- `close_up` meets its contract: at i the first i words are those 14 further on, and the rest are as they were; then the last 14
+-- are cleared.
 use Prim.Native.Nat.{ℕ, _≤_, _-_}
 use mathlib.Core.Path.{_≡_, refl, ap, ap₂, _∙_}
 use mathlib.Core.List.{List, _++_}
@@ -15,6 +16,19 @@ Inv-loop part₀ n i₀ part i = (i ≤ n) × (length part ≡ length part₀) �
 
 abbrev μ-loop : tie.MeasureT-loop
 μ-loop part₀ n i₀ part i = n - i
+
+-- the places of the walk, each by its way to the one before it: a turn of the loop, its store, and the clearing past it
+abbrev turn-start : tie.At-loop Inv-loop μ-loop → tie.Start Inv-loop μ-loop
+turn-start c = c .before .before
+
+abbrev store-turn : tie.After-slice-known2 Inv-loop μ-loop → tie.At-loop Inv-loop μ-loop
+store-turn c = c .before .before
+
+abbrev cleared-turn : tie.After-clear Inv-loop μ-loop → tie.At-loop Inv-loop μ-loop
+cleared-turn c = c .before .before .before
+
+abbrev end-cleared : tie.After-slice-known3 Inv-loop μ-loop → tie.After-clear Inv-loop μ-loop
+end-cleared c = c .before .before
 
 sub-n : tie.Need-sub-n Inv-loop μ-loop
 sub-n c = search needs
@@ -44,7 +58,10 @@ loop-less : tie.Need-loop-less Inv-loop μ-loop
 loop-less c = search needs
 
 loop-again : tie.Need-loop-again Inv-loop μ-loop
-loop-again c = (search needs, simp length-set (search needs), move-more (c .before .before .before .before .args .part .now) (c .before .before .loop .part) (c .before .before .loop .i) 14 (c .before .before .loop .inv .2) (search needs))
+loop-again c =
+    let turn = store-turn c in
+    let moved = move-more (turn-start turn .args .part .now) (turn .loop .part) (turn .loop .i) 14 (turn .loop .inv .2) (search needs) in
+    (search needs, simp length-set (search needs), moved)
 
 mul-clear : tie.Need-mul-clear Inv-loop μ-loop
 mul-clear c = search needs
@@ -66,12 +83,14 @@ same-length c = search needs
 
 returns : tie.Need-returns Inv-loop μ-loop
 returns c =
-    let d = c .before .before .before .before .before .before .before .args .part .now in
-    let m = c .before .before .before .before .before .loop .part in
+    let clear = end-cleared c .clear in
+    let turn = cleared-turn (end-cleared c) in
+    let d = turn-start turn .args .part .now in
+    let m = turn .loop .part in
     let n = length d - 14 in
-    let moved : take n m ≡ drop 14 d = move-all d m n (c .before .before .before .before .before .loop .i) 14 (c .before .before .before .before .before .loop .inv .2) (search needs) refl in
+    let moved : take n m ≡ drop 14 d = move-all d m n (turn .loop .i) 14 (turn .loop .inv .2) (search needs) refl in
     let row : length m - n ≡ 14 = search needs in
-    put-tail m (c .before .before .clear .last .0) n ∙ ap₂ (λ (x y : List ℕ). x ++ y) moved (c .before .before .clear .ensures ∙ ap zeros (tail-length m n ∙ row))
+    put-tail m (clear .last .0) n ∙ ap₂ (λ (x y : List ℕ). x ++ y) moved (clear .ensures ∙ ap zeros (tail-length m n ∙ row))
 
 pub close-up-spec : {M : Type 1} → statement M
 close-up-spec =

@@ -1,4 +1,4 @@
--- `copy_in` meets its contract.
+-- `copy_in` meets its contract: at i the first i words are those of the source, and the rest are as they were.
 use Prim.Native.Nat.{_≤_, _-_}
 use mathlib.Core.Path.{_≡_, refl}
 use mathlib.Core.List.{_++_}

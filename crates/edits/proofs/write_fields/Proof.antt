@@ -1,4 +1,4 @@
--- `write_fields` meets its contract.
+-- `write_fields` meets its contract: the fields come first in the part, and the words past them become 0.
 use Rattle.rules.specs.Words.{zeros}
 use Rattle.edits.proofs.Tails.{after-head, tail-length}
 use Prim.Native.Nat.{ℕ, _-_}
@@ -8,6 +8,16 @@ use lib.ListN.{length}
 use borrow.Author.Needs.{needs}
 use Rattle.edits.proofs.write_fields.Statement.{statement}
 use Rattle.edits.proofs.write_fields.Tie as tie
+
+-- the places of the walk, each by its way to the one before it: after the copy, after the clearing, and at the end
+abbrev copied-start : tie.After-copy-in → tie.Start
+copied-start c = c .before .before .before .before
+
+abbrev cleared-copied : tie.After-clear → tie.After-copy-in
+cleared-copied c = c .before .before .before .before
+
+abbrev end-cleared : tie.After-slice-known3 → tie.After-clear
+end-cleared c = c .before .before
 
 copy-in-requires : tie.Need-copy-in-requires
 copy-in-requires c κs = search needs
@@ -32,11 +42,15 @@ same-length c = search needs
 
 returns : tie.Need-returns
 returns c =
-    let fs = c .before .before .before .before .before .before .before .before .before .before .args .fields .now in
-    let last = c .before .before .before .before .before .before .copy-in .last .1 .0 in
-    let kept : length last ≡ length (c .before .before .before .before .before .before .before .before .before .before .args .part .now) = c .before .before .before .before .before .before .copy-in .kept .1 .0 in
-    let ys : c .before .before .clear .last .0 ≡ zeros (length (c .before .before .before .before .before .before .before .before .before .before .args .part .now) - length fs) = c .before .before .clear .ensures ∙ ap zeros (tail-length last (length fs) ∙ ap (λ (n : ℕ). n - length fs) kept) in
-    after-head fs _ last _ (c .before .before .before .before .before .before .copy-in .ensures) ∙ ap (λ (x : List ℕ). fs ++ x) ys
+    let cleared = end-cleared c in
+    let copied = cleared-copied cleared in
+    let a = copied-start copied .args in
+    let fs = a .fields .now in
+    let last = copied .copy-in .last .1 .0 in
+    let kept : length last ≡ length (a .part .now) = copied .copy-in .kept .1 .0 in
+    let rest : cleared .clear .last .0 ≡ zeros (length (a .part .now) - length fs) =
+    cleared .clear .ensures ∙ ap zeros (tail-length last (length fs) ∙ ap (λ (n : ℕ). n - length fs) kept) in
+    after-head fs _ last _ (copied .copy-in .ensures) ∙ ap (λ (x : List ℕ). fs ++ x) rest
 
 pub write-fields-spec : {M : Type 1} → statement M
 write-fields-spec =

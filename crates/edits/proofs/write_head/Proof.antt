@@ -1,4 +1,4 @@
--- `write_head` meets its contract.
+-- `write_head` meets its contract: six stores in a row put the six words before the rest of the row.
 use lib.Seq.{sets-eq}
 use mathlib.Core.List.{[], _∷_}
 use native.Mathlib.Omega.{arith}
@@ -29,7 +29,9 @@ same-length : tie.Need-same-length
 same-length c = search needs
 
 returns : tie.Need-returns
-returns c = sets-eq (c .args .writer ∷ c .args .rpart ∷ c .args .rkey ∷ c .args .tpart ∷ c .args .tkey ∷ c .args .n ∷ []) (c .args .row .now) 0 (search needs)
+returns c =
+    let a = c .args in
+    sets-eq (a .writer ∷ a .rpart ∷ a .rkey ∷ a .tpart ∷ a .tkey ∷ a .n ∷ []) (a .row .now) 0 (search needs)
 
 pub write-head-spec : {M : Type 1} → statement M
 write-head-spec =

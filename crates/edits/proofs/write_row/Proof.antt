@@ -1,4 +1,4 @@
--- `write_row` meets its contract.
+-- `write_row` meets its contract: the head and, in the eight words past it, the fields and zeros make the row.
 use Prim.Native.Nat.{ℕ, _-_}
 use mathlib.Core.Path.{_≡_, ap, _∙_}
 use mathlib.Core.List.{List, [], _∷_, _++_}
@@ -9,6 +9,16 @@ use Rattle.edits.proofs.Tails.{after-head, tail-length}
 use borrow.Author.Needs.{needs}
 use Rattle.edits.proofs.write_row.Statement.{statement}
 use Rattle.edits.proofs.write_row.Tie as tie
+
+-- the places of the walk, each by its way to the one before it: after the head, after the fields, and at the end
+abbrev head-start : tie.After-write-head → tie.Start
+head-start c = c .before .before .before .before
+
+abbrev fields-head : tie.After-write-fields → tie.After-write-head
+fields-head c = c .before .before .before .before
+
+abbrev end-fields : tie.After-slice-known3 → tie.After-write-fields
+end-fields c = c .before .before
 
 write-head-requires : tie.Need-write-head-requires
 write-head-requires c κs = search needs
@@ -30,14 +40,16 @@ same-length c = search needs
 
 returns : tie.Need-returns
 returns c =
-    let a = c .before .before .before .before .before .before .before .before .before .before .args in
+    let fields = end-fields c in
+    let head = fields-head fields .write-head in
+    let a = head-start (fields-head fields) .args in
     let fs = a .fields .now in
     let h = a .writer ∷ a .rpart ∷ a .rkey ∷ a .tpart ∷ a .tkey ∷ length fs ∷ [] in
-    let last = c .before .before .before .before .before .before .write-head .last .0 in
-    let kept : length last ≡ length (a .row .now) = c .before .before .before .before .before .before .write-head .kept .0 in
+    let last = head .last .0 in
+    let kept : length last ≡ length (a .row .now) = head .kept .0 in
     let eight : length (take (length last - 6) (drop 6 last)) ≡ 8 = tail-length last 6 ∙ omega arith in
-    after-head h _ last _ (c .before .before .before .before .before .before .write-head .ensures)
-    ∙ ap (λ (x : List ℕ). h ++ x) (c .before .before .write-fields .ensures ∙ ap (λ (n : ℕ). fs ++ zeros (n - length fs)) eight)
+    after-head h _ last _ (head .ensures)
+    ∙ ap (λ (x : List ℕ). h ++ x) (fields .write-fields .ensures ∙ ap (λ (n : ℕ). fs ++ zeros (n - length fs)) eight)
 
 pub write-row-spec : {M : Type 1} → statement M
 write-row-spec =
