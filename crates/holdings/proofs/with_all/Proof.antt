@@ -17,6 +17,13 @@ Inv-loop src dst₀ c i₀ dst i = (i ≤ length src) × (length dst ≡ length 
 abbrev μ-loop : tie.MeasureT-loop
 μ-loop src dst₀ c i₀ dst i = length src - i
 
+-- the places of the walk, each by its way to the one before it: a turn of the loop, and its word with the bit
+abbrev turn-start : tie.At-loop Inv-loop μ-loop → tie.Start Inv-loop μ-loop
+turn-start c = c .before .before .before
+
+abbrev bit-turn : tie.After-with-bit Inv-loop μ-loop → tie.At-loop Inv-loop μ-loop
+bit-turn c = c .before .before .before
+
 loop-holds : tie.Need-loop-holds Inv-loop μ-loop
 loop-holds c = (search needs, search needs, refl)
 
@@ -43,18 +50,23 @@ loop-less c = search needs
 
 loop-again : tie.Need-loop-again Inv-loop μ-loop
 loop-again c =
-    let a = c .before .before .before .before .before .before .args in
-    let i = c .before .before .before .loop .i in
+    let turn = bit-turn c in
+    let a = turn-start turn .args in
+    let i = turn .loop .i in
     let f : ℕ → ℕ = λ w. withBit w (a .c) in
-    let len = length-map (a .src .now) f in
-    (search needs, simp length-set (search needs), store (map f (a .src .now)) (a .dst .now) (c .before .before .before .loop .dst) i _ (c .before .before .before .loop .inv .2) (c .with-bit .ensures ∙ at-map f (a .src .now) i (search needs)) (omega arith) (omega arith))
+    let len = length-map (a .src .now) f in (
+      search needs,
+      simp length-set (search needs),
+      store (map f (a .src .now)) (a .dst .now) (turn .loop .dst) i _ (turn .loop .inv .2)
+          (c .with-bit .ensures ∙ at-map f (a .src .now) i (search needs)) (omega arith) (omega arith),
+    )
 
 same-length : tie.Need-same-length Inv-loop μ-loop
 same-length c = search needs
 
 returns : tie.Need-returns Inv-loop μ-loop
 returns c =
-    let a = c .before .before .before .before .args in
+    let a = turn-start (c .before) .args in
     let f : ℕ → ℕ = λ w. withBit w (a .c) in
     let len = length-map (a .src .now) f in
     store-all (map f (a .src .now)) (a .dst .now) (c .before .loop .dst) (c .before .loop .i) (c .before .loop .inv .2) (omega arith) (omega arith)
