@@ -13,6 +13,22 @@ Inv-loop space p₀ p = (p ≤ 8) × (holdingsOk (fromParty (decode space) p) �
 abbrev μ-loop : tie.MeasureT-loop
 μ-loop space p₀ p = 8 - p
 
+-- the places of the walk, each by its way to the one before it: a turn of the loop, its party's words read, and each bit tested
+abbrev turn-start : tie.At-loop Inv-loop μ-loop → tie.Start Inv-loop μ-loop
+turn-start c = c .before .before
+
+abbrev words-turn : tie.After-shared-slice-known3 Inv-loop μ-loop → tie.At-loop Inv-loop μ-loop
+words-turn c = c .before .before .before
+
+abbrev partition-words : tie.After-has-bit Inv-loop μ-loop → tie.After-shared-slice-known3 Inv-loop μ-loop
+partition-words c = c .before
+
+abbrev key-partition : tie.After-has-bit2 Inv-loop μ-loop → tie.After-has-bit Inv-loop μ-loop
+key-partition c = c .before
+
+abbrev spare-key : tie.After-has-bit3 Inv-loop μ-loop → tie.After-has-bit2 Inv-loop μ-loop
+spare-key c = c .before
+
 loop-holds : tie.Need-loop-holds Inv-loop μ-loop
 loop-holds c = (search needs, refl)
 
@@ -45,9 +61,13 @@ has-bit-requires-3 c κs = search needs
 
 returns : tie.Need-returns Inv-loop μ-loop
 returns c =
-    let at = c .before .before .before .before .before .before .before in
-    holdings-stop (at .before .before .args .space .now) (at .loop .p) (at .before .before .pre) (search needs)
-    (c .before .before .before .has-bit .ensures) (c .before .before .has-bit2 .ensures) (c .before .has-bit3 .ensures) (at .loop .inv .1) (c .if1 .taken)
+    let spare = c .before in
+    let key = spare-key spare in
+    let partition = key-partition key in
+    let turn = words-turn (partition-words partition) in
+    let start = turn-start turn in
+    holdings-stop (start .args .space .now) (turn .loop .p) (start .pre) (search needs)
+    (partition .has-bit .ensures) (key .has-bit2 .ensures) (spare .has-bit3 .ensures) (turn .loop .inv .1) (c .if1 .taken)
 
 add-p : tie.Need-add-p Inv-loop μ-loop
 add-p c = search needs
@@ -57,14 +77,21 @@ loop-less c = search needs
 
 loop-again : tie.Need-loop-again Inv-loop μ-loop
 loop-again c =
-    let at = c .before .before .before .before .before .before .before in (
+    let spare = c .before in
+    let key = spare-key spare in
+    let partition = key-partition key in
+    let turn = words-turn (partition-words partition) in
+    let start = turn-start turn in (
       search needs,
-      holdings-step (at .before .before .args .space .now) (at .loop .p) (at .before .before .pre) (search needs)
-          (c .before .before .before .has-bit .ensures) (c .before .before .has-bit2 .ensures) (c .before .has-bit3 .ensures) (at .loop .inv .1) (c .if1 .left),
+      holdings-step (start .args .space .now) (turn .loop .p) (start .pre) (search needs)
+          (partition .has-bit .ensures) (key .has-bit2 .ensures) (spare .has-bit3 .ensures) (turn .loop .inv .1) (c .if1 .left),
     )
 
 returns-2 : tie.Need-returns-2 Inv-loop μ-loop
-returns-2 c = sym (holdings-end (c .before .before .before .args .space .now) (c .before .loop .p) (c .before .before .before .pre) (c .loop-test .left)) ∙ c .before .loop .inv .1
+returns-2 c =
+    let turn = c .before in
+    let start = turn-start turn in
+    sym (holdings-end (start .args .space .now) (turn .loop .p) (start .pre) (c .loop-test .left)) ∙ turn .loop .inv .1
 
 pub holdings-ok-spec : {M : Type 1} → statement M
 holdings-ok-spec =
