@@ -1,4 +1,4 @@
--- `bad_pair` meets its contract.
+-- `bad_pair` meets its contract: the machine reads the key back from its bits unchanged, and the two tests are those of `badPair`.
 use mathlib.Core.Path.{ap, _∙_}
 use mathlib.Core.Bool.{Bool, not, _||_}
 use lib.Dec.{ltb}
@@ -13,7 +13,9 @@ key-in-range-requires : tie.Need-key-in-range-requires
 key-in-range-requires c κs = search needs
 
 returns : tie.Need-returns
-returns c = ap (λ (b : Bool). ltb 63 (c .before .args .partition) || not b) (c .key-in-range .ensures ∙ ap keyInRange (toZ-ofZ {w = w32} (c .before .fits .key)))
+returns c =
+    let range = c .key-in-range .ensures ∙ ap keyInRange (toZ-ofZ {w = w32} (c .before .fits .key)) in
+    ap (λ (b : Bool). ltb 63 (c .before .args .partition) || not b) range
 
 pub bad-pair-spec : {M : Type 1} → statement M
 bad-pair-spec = tie.close (tie.spec key-in-range-requires returns)

@@ -1,9 +1,10 @@
--- `bad_roster` meets its contract.
+-- `bad_roster` meets its contract: past the test of its length, the key words that are left at i decide as all eight do.
 use Prim.Native.Nat.{ℕ, _≤_, _-_}
 use mathlib.Core.Path.{_≡_, refl, ap}
-use mathlib.Core.Bool.{Bool, not}
+use mathlib.Core.Bool.{Bool, true, not}
 use borrow.Author.Tests.{eq-eqb, ne-eqb}
-use lib.ListN.{drop}
+use lib.Dec.{eqb}
+use lib.ListN.{length, drop}
 use Rattle.rules.specs.Lists.{all}
 use Rattle.rules.specs.Names.{bit}
 use Rattle.rules.proofs.Loops.{all-fails, all-goes-on, all-ends}
@@ -19,6 +20,22 @@ Inv-loop roster i₀ i = (8 ≤ i) × (i ≤ 16) × (all clear (drop i roster) �
 
 abbrev μ-loop : tie.MeasureT-loop
 μ-loop roster i₀ i = 16 - i
+
+-- the places of the walk, each by its way to the one before it: past the test of the length, a turn, and its word's bit tested
+abbrev sized-start : tie.Else1 Inv-loop μ-loop → tie.Start Inv-loop μ-loop
+sized-start c = c .before .before
+
+abbrev turn-sized : tie.At-loop Inv-loop μ-loop → tie.Else1 Inv-loop μ-loop
+turn-sized c = c .before
+
+abbrev turn-start : tie.At-loop Inv-loop μ-loop → tie.Start Inv-loop μ-loop
+turn-start c = sized-start (turn-sized c)
+
+abbrev bit-turn : tie.After-has-bit Inv-loop μ-loop → tie.At-loop Inv-loop μ-loop
+bit-turn c = c .before .before .before
+
+sixteen : (c : tie.At-loop Inv-loop μ-loop) → eqb (length (turn-start c .args .roster .now)) 16 ≡ true
+sixteen c = eq-eqb _ _ (turn-sized c .if1 .left)
 
 returns : tie.Need-returns Inv-loop μ-loop
 returns c = simp (ne-eqb _ _ (c .if1 .taken))
@@ -36,7 +53,12 @@ has-bit-requires : tie.Need-has-bit-requires Inv-loop μ-loop
 has-bit-requires c κs = search needs
 
 returns-2 : tie.Need-returns-2 Inv-loop μ-loop
-returns-2 c = simp (eq-eqb _ _ (c .before .before .before .before .before .if1 .left)) (ap not (all-fails clear (c .before .before .before .before .before .before .before .args .roster .now) (c .before .before .before .before .loop .i) _ (c .before .before .before .before .loop .inv .2) (search needs) _ (ap not (c .before .has-bit .ensures)) (ap (λ (b : Bool). not (not b)) (c .if2 .taken))))
+returns-2 c =
+    let turn = bit-turn (c .before) in
+    simp (sixteen turn)
+    (ap not
+    (all-fails clear (turn-start turn .args .roster .now) (turn .loop .i) _ (turn .loop .inv .2) (search needs) _
+    (ap not (c .before .has-bit .ensures)) (ap (λ (b : Bool). not (not b)) (c .if2 .taken))))
 
 add-i : tie.Need-add-i Inv-loop μ-loop
 add-i c = search needs
@@ -45,10 +67,18 @@ loop-less : tie.Need-loop-less Inv-loop μ-loop
 loop-less c = search needs
 
 loop-again : tie.Need-loop-again Inv-loop μ-loop
-loop-again c = (search needs, search needs, all-goes-on clear (c .before .before .before .before .before .before .before .args .roster .now) (c .before .before .before .before .loop .i) _ (c .before .before .before .before .loop .inv .2) (search needs) _ (ap not (c .before .has-bit .ensures)) (ap (λ (b : Bool). not (not b)) (c .if2 .left)))
+loop-again c =
+    let turn = bit-turn (c .before) in (
+      search needs,
+      search needs,
+      all-goes-on clear (turn-start turn .args .roster .now) (turn .loop .i) _ (turn .loop .inv .2) (search needs) _
+          (ap not (c .before .has-bit .ensures)) (ap (λ (b : Bool). not (not b)) (c .if2 .left)),
+    )
 
 returns-3 : tie.Need-returns-3 Inv-loop μ-loop
-returns-3 c = simp (eq-eqb _ _ (c .before .before .if1 .left)) (ap not (all-ends clear (c .before .before .before .before .args .roster .now) (c .before .loop .i) _ (c .before .loop .inv .2) (search needs)))
+returns-3 c =
+    let turn = c .before in
+    simp (sixteen turn) (ap not (all-ends clear (turn-start turn .args .roster .now) (turn .loop .i) _ (turn .loop .inv .2) (search needs)))
 
 pub bad-roster-spec : {M : Type 1} → statement M
 bad-roster-spec =

@@ -12,11 +12,21 @@ use borrow.Author.Needs.{needs}
 use Rattle.refusals.proofs.first_tests.Statement.{statement}
 use Rattle.refusals.proofs.first_tests.Tie as tie
 
-audit-is : (c : tie.After-known-told)
-    → (sound (c .before .before .before .before .before .before .args .space .now) ≡ true) × (c .before .live .given .0 .0 ≡ live (c .before .before .before .before .before .before .args .party) (decode (c .before .before .before .before .before .before .args .space .now) .entries))
-audit-is c = audited-sound _ _ _ (sym (c .before .live .given .1) ∙ c .before .before .before .audit .ensures)
+-- the places of the walk, each by its way to the one before it: after the audit, and where it found the space sound
+abbrev audit-start : tie.After-audit → tie.Start
+audit-start c = c .before .before .before
 
-party-is : (c : tie.Else1) → ltb 7 (c .before .before .before .before .before .before .before .args .party) ≡ false
+abbrev sound-audit : tie.After-known-told → tie.After-audit
+sound-audit c = c .before .before .before
+
+abbrev sound-start : tie.After-known-told → tie.Start
+sound-start c = audit-start (sound-audit c)
+
+audit-is : (c : tie.After-known-told)
+    → let a = sound-start c .args in (sound (a .space .now) ≡ true) × (c .before .live .given .0 .0 ≡ live (a .party) (decode (a .space .now) .entries))
+audit-is c = audited-sound _ _ _ (sym (c .before .live .given .1) ∙ sound-audit c .audit .ensures)
+
+party-is : (c : tie.Else1) → ltb 7 (sound-start (c .before) .args .party) ≡ false
 party-is c = le-ltb _ _ (c .if1 .left)
 
 audit-requires : tie.Need-audit-requires
@@ -34,16 +44,20 @@ returns c = rw (unsound _ _ (sym (c .enum-told .given .1) ∙ c .before .before 
 
 returns-2 : tie.Need-returns-2
 unfolding firstTests begun
-returns-2 c = let above : ltb 7 (c .before .before .before .before .before .before .before .args .party) ≡ true = lt-ltb _ _ (c .if1 .taken) in rw (audit-is (c .before) .0, above) refl
+returns-2 c =
+    let above : ltb 7 (sound-start (c .before) .args .party) ≡ true = lt-ltb _ _ (c .if1 .taken) in
+    rw (audit-is (c .before) .0, above) refl
 
 returns-3 : tie.Need-returns-3
 unfolding firstTests begun
-returns-3 c = let bad : badCount (c .before .before .before .before .before .before .before .before .args .fields .now) ≡ true = c .if2 .taken in rw (audit-is (c .before .before) .0, party-is (c .before), bad) refl
+returns-3 c =
+    let bad : badCount (sound-start (c .before .before) .args .fields .now) ≡ true = c .if2 .taken in
+    rw (audit-is (c .before .before) .0, party-is (c .before), bad) refl
 
 returns-4 : tie.Need-returns-4
 unfolding firstTests begun
 returns-4 c =
-    let good : badCount (c .before .before .before .before .before .before .before .before .args .fields .now) ≡ false = c .if2 .left in
+    let good : badCount (sound-start (c .before .before) .args .fields .now) ≡ false = c .if2 .left in
     rw (audit-is (c .before .before) .0, party-is (c .before), good, audit-is (c .before .before) .1) refl
 
 pub first-tests-spec : {M : Type 1} → statement M

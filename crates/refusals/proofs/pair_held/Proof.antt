@@ -1,4 +1,4 @@
--- `pair_held` meets its contract.
+-- `pair_held` meets its contract: the bits that it tests are those of the partition and of the stored key.
 use mathlib.Core.Path.{ap, _∙_}
 use mathlib.Core.Bool.{and-true}
 use mir.Facts.{toZ-ofZ}
@@ -20,9 +20,11 @@ has-bit-requires-2 c κs = search needs
 returns : tie.Need-returns
 unfolding heldIn
 returns c =
-    let a = c .before .before .before .args in
-    let key = c .before .stored-key .ensures ∙ ap stored (toZ-ofZ {w = w32} (c .before .before .before .fits .key)) in
-    rw (c .before .before .has-bit .ensures, c .has-bit2 .ensures ∙ ap (bit (a .keys)) key, and-true)
+    let key = c .before in
+    let partition = key .before in
+    let start = partition .before in
+    let same = key .stored-key .ensures ∙ ap stored (toZ-ofZ {w = w32} (start .fits .key)) in
+    rw (partition .has-bit .ensures, c .has-bit2 .ensures ∙ ap (bit (start .args .keys)) same, and-true)
 
 pub pair-held-spec : {M : Type 1} → statement M
 pair-held-spec =

@@ -1,4 +1,4 @@
--- `put_held` meets its contract.
+-- `put_held` meets its contract: the names of both pairs and of the fields are tested in the two words that say what the party holds.
 use mathlib.Core.List.{_++_}
 use mir.Facts.{toZ-ofZ}
 use mir.Syntax.{w32}
@@ -9,6 +9,16 @@ use Rattle.refusals.proofs.Held.{held-pair, held-fields}
 use borrow.Author.Needs.{needs}
 use Rattle.refusals.proofs.put_held.Statement.{statement}
 use Rattle.refusals.proofs.put_held.Tie as tie
+
+-- the places of the walk, each by its way to the one before it: the party's words read, and the pairs tested
+abbrev words-start : tie.After-shared-slice-known4 → tie.Start
+words-start c = c .before .before .before .before
+
+abbrev read-words : tie.After-pair-held → tie.After-shared-slice-known4
+read-words c = c .before
+
+abbrev take-read : tie.After-pair-held2 → tie.After-pair-held
+take-read c = c .before
 
 add-partitions : tie.Need-add-partitions
 add-partitions c = search needs
@@ -39,11 +49,15 @@ fields-held-requires c κs = search needs
 
 returns : tie.Need-returns
 returns c =
-    let a = c .before .before .before .before .before .before .before .args in
+    let take = c .before in
+    let read = take-read take in
+    let start = words-start (read-words read) in
+    let a = start .args in
     let ws = a .space .now in
     let names = namesIn (a .fields .now) in
-    held-pair ws (a .party) (search needs) (a .rpart) _ (a .rkey) (pairNames (storedPair (pair (a .tpart) (a .tkey))) ++ names) _ _ (toZ-ofZ {w = w32} (c .before .before .before .before .before .before .before .fits .rkey)) (c .before .before .pair-held .ensures)
-    (held-pair ws (a .party) (search needs) (a .tpart) _ (a .tkey) names _ _ (toZ-ofZ {w = w32} (c .before .before .before .before .before .before .before .fits .tkey)) (c .before .pair-held2 .ensures)
+    held-pair ws (a .party) (search needs) (a .rpart) _ (a .rkey) (pairNames (storedPair (pair (a .tpart) (a .tkey))) ++ names) _ _
+    (toZ-ofZ {w = w32} (start .fits .rkey)) (read .pair-held .ensures)
+    (held-pair ws (a .party) (search needs) (a .tpart) _ (a .tkey) names _ _ (toZ-ofZ {w = w32} (start .fits .tkey)) (take .pair-held2 .ensures)
     (held-fields ws (a .party) (search needs) names _ (c .fields-held .ensures)))
 
 pub put-held-spec : {M : Type 1} → statement M

@@ -1,4 +1,4 @@
--- `seek_held` meets its contract.
+-- `seek_held` meets its contract: the names of the pair and of the template are tested in the two words that say what the party holds.
 use mir.Facts.{toZ-ofZ}
 use mir.Syntax.{w32}
 use Rattle.rules.specs.Fields.{namesIn}
@@ -6,6 +6,13 @@ use Rattle.refusals.proofs.Held.{held-pair, held-fields}
 use borrow.Author.Needs.{needs}
 use Rattle.refusals.proofs.seek_held.Statement.{statement}
 use Rattle.refusals.proofs.seek_held.Tie as tie
+
+-- the places of the walk, each by its way to the one before it: the party's words read, and the pair tested
+abbrev words-start : tie.After-shared-slice-known4 → tie.Start
+words-start c = c .before .before .before .before
+
+abbrev pair-words : tie.After-pair-held → tie.After-shared-slice-known4
+pair-words c = c .before
 
 add-partitions : tie.Need-add-partitions
 add-partitions c = search needs
@@ -33,10 +40,12 @@ fields-held-requires c κs = search needs
 
 returns : tie.Need-returns
 returns c =
-    let a = c .before .before .before .before .before .before .args in
+    let pair = c .before in
+    let start = words-start (pair-words pair) in
+    let a = start .args in
     let ws = a .space .now in
     let names = namesIn (a .template .now) in
-    held-pair ws (a .party) (search needs) (a .partition) _ (a .key) names _ _ (toZ-ofZ {w = w32} (c .before .before .before .before .before .before .fits .key)) (c .before .pair-held .ensures)
+    held-pair ws (a .party) (search needs) (a .partition) _ (a .key) names _ _ (toZ-ofZ {w = w32} (start .fits .key)) (pair .pair-held .ensures)
     (held-fields ws (a .party) (search needs) names _ (c .fields-held .ensures))
 
 pub seek-held-spec : {M : Type 1} → statement M
