@@ -11,7 +11,7 @@ use lib.IntN.{ℤ}
 use lib.ListN.{length, getD}
 use Rattle.rules.specs.Names.{keyInRange}
 use Rattle.rules.specs.Matching.{Pair}
-use Rattle.rules.specs.Calls.{put, firstThatApplies, badPair, putTable, seekTable}
+use Rattle.rules.specs.Calls.{put, Table, firstThatApplies, badPair, putTable, seekTable}
 use Rattle.rules.specs.Words.{decode, sound}
 use Rattle.rules.specs.Claims.{Passes}
 use Rattle.rules.specs.Lists.{All}
@@ -35,7 +35,8 @@ pub seek-passed : (ws : List ℕ) (who : ℕ) (p : Pair ℤ) (t : List ℕ) (roo
     → firstThatApplies ((not (sound ws), 1) ∷ seekTable (decode ws) who p t room) ≡ none → SeekPassed ws who p t room
 unfolding seekTable
 seek-passed ws who p t room e =
-    let r : All (λ t. t .0 ≡ false) ((not (sound ws), 1) ∷ seekTable (decode ws) who p t room) = passed ((not (sound ws), 1) ∷ seekTable (decode ws) who p t room) e in
+    let tests : Table = (not (sound ws), 1) ∷ seekTable (decode ws) who p t room in
+    let r : All (λ t. t .0 ≡ false) tests = passed tests e in
     let h : who ≤ 7 = ltb-false 7 who (r .1 .0) in
     record {
       isSound = not-false (sound ws) (r .0);

@@ -198,7 +198,8 @@ module _ (ws : List ℕ) (who : ℕ) (p : Pair ℤ) (t result : List ℕ) where
 
       go : Hit ws taking who p t result r → Removable r (encode gifted) (fieldsAt r (length t) ws ++ drop (length t) result)
       go h =
-          let w : WF gifted = wf-giveAll who names (decode ws) (namesIn-ok (fieldsAt r (length t) ws)) (wf-decode ws (passes-sound ws (seek taking who p t result) (h .passes))) in
+          let wf : WF (decode ws) = wf-decode ws (passes-sound ws (seek taking who p t result) (h .passes)) in
+          let w : WF gifted = wf-giveAll who names (decode ws) (namesIn-ok (fieldsAt r (length t) ws)) wf in
           let same : decode (encode gifted) ≡ gifted = back gifted w in
           let entries : gifted .entries ≡ decode ws .entries = giveAll-entries who names (decode ws) in
           let l : length (decode (encode gifted) .entries) ≡ length (decode ws .entries) = rw (same, entries) refl in

@@ -1,10 +1,20 @@
--- `copy_out` meets its contract.
+-- `copy_out` meets its contract: the words that it copies are the row's first fields, which stand within the space.
 use native.Mathlib.Omega.{arith}
 use Prim.Native.Nat.{_+_, _*_}
 use Rattle.space.proofs.Seeking.{copied}
 use borrow.Author.Needs.{needs}
 use Rattle.space.proofs.copy_out.Statement.{statement}
 use Rattle.space.proofs.copy_out.Tie as tie
+
+-- the places of the walk, each by its way to the one before it: where the row's fields are found, copied, and the end
+abbrev fields-start : tie.After-slice-known → tie.Start
+fields-start c = c .before .before
+
+abbrev copied-fields : tie.After-copy-in → tie.After-slice-known
+copied-fields c = c .before .before .before
+
+abbrev end-copied : tie.After-slice-known2 → tie.After-copy-in
+end-copied c = c .before .before
 
 mul-at : tie.Need-mul-at
 mul-at c = search needs
@@ -34,7 +44,11 @@ same-length : tie.Need-same-length
 same-length c = search needs
 
 returns : tie.Need-returns
-returns c = let a = c .before .before .before .before .before .before .before .args in copied (a .space .now) (a .result .now) _ (23 + 14 * a .row) (a .n) (omega (arith, c .before .before .before .before .before .before .before .pre)) (c .before .before .copy-in .ensures)
+returns c =
+    let copy = end-copied c in
+    let start = fields-start (copied-fields copy) in
+    let a = start .args in
+    copied (a .space .now) (a .result .now) _ (23 + 14 * a .row) (a .n) (omega (arith, start .pre)) (copy .copy-in .ensures)
 
 pub copy-out-spec : {M : Type 1} → statement M
 copy-out-spec =

@@ -22,6 +22,35 @@ use borrow.Author.Needs.{needs}
 use Rattle.space.proofs.put.Statement.{statement}
 use Rattle.space.proofs.put.Tie as tie
 
+-- the places of the walk, each by its way to the one before it: after the verdict, refused or passed, the keys stored, the space
+-- lent, the row added, and the end
+abbrev verdict-start : tie.After-of-put → tie.Start
+verdict-start c = c .before .before .before .before
+
+abbrev refused-verdict : tie.After-known-told → tie.After-of-put
+refused-verdict c = c .before .before .before
+
+abbrev passed-verdict : tie.After-enum-told → tie.After-of-put
+passed-verdict c = c .before .before
+
+abbrev passed-start : tie.After-enum-told → tie.Start
+passed-start c = verdict-start (passed-verdict c)
+
+abbrev rkey-passed : tie.After-stored-key → tie.After-enum-told
+rkey-passed c = c .before
+
+abbrev tkey-rkey : tie.After-stored-key2 → tie.After-stored-key
+tkey-rkey c = c .before
+
+abbrev lent-tkey : tie.After-add-row-arg → tie.After-stored-key2
+lent-tkey c = c .before
+
+abbrev lent-passed : tie.After-add-row-arg → tie.After-enum-told
+lent-passed c = rkey-passed (tkey-rkey (lent-tkey c))
+
+abbrev end-added : tie.After-slice-known2 → tie.After-add-row
+end-added c = c .before .before
+
 -- the table of the call, by its keys
 tableOf : tie.Start → ℤ → ℤ → Table
 tableOf s r t =
@@ -38,19 +67,17 @@ rkey-kept s = toZ-ofZ (s .fits .rkey)
 tkey-kept : (s : tie.Start) → toZ w32 (ofZ w32 (s .args .tkey)) ≡ s .args .tkey
 tkey-kept s = toZ-ofZ (s .fits .tkey)
 
-verdict-is : (c : tie.After-of-put) → c .of-put .result ≡ verdict (whole (c .before .before .before .before))
+verdict-is : (c : tie.After-of-put) → c .of-put .result ≡ verdict (whole (verdict-start c))
 unfolding whole tableOf
-verdict-is c =
-    let s = c .before .before .before .before in
-    c .of-put .ensures ∙ ap₂ (λ (r t : ℤ). verdict (tableOf s r t)) (rkey-kept s) (tkey-kept s)
+verdict-is c = let s = verdict-start c in rw (rkey-kept s, tkey-kept s) at (c .of-put .ensures)
 
-no-refusal : (c : tie.After-enum-told) → firstThatApplies (whole (c .before .before .before .before .before .before)) ≡ none
-no-refusal c = verdict-passed (whole (c .before .before .before .before .before .before)) (sym (c .enum-told .given .1) ∙ verdict-is (c .before .before))
+no-refusal : (c : tie.After-enum-told) → firstThatApplies (whole (passed-start c)) ≡ none
+no-refusal c = verdict-passed (whole (passed-start c)) (sym (c .enum-told .given .1) ∙ verdict-is (passed-verdict c))
 
 passed : (c : tie.After-enum-told)
-    → PutPassed (c .before .before .before .before .before .before .args .space .now) (pair (c .before .before .before .before .before .before .args .rpart) (c .before .before .before .before .before .before .args .rkey)) (pair (c .before .before .before .before .before .before .args .tpart) (c .before .before .before .before .before .before .args .tkey)) (c .before .before .before .before .before .before .args .fields .now)
+    → let a = passed-start c .args in PutPassed (a .space .now) (pair (a .rpart) (a .rkey)) (pair (a .tpart) (a .tkey)) (a .fields .now)
 unfolding whole tableOf
-passed c = put-passed _ (c .before .before .before .before .before .before .args .party) _ _ _ (no-refusal c)
+passed c = put-passed _ (passed-start c .args .party) _ _ _ (no-refusal c)
 
 of-put-requires : tie.Need-of-put-requires
 of-put-requires c κs = search needs
@@ -63,19 +90,21 @@ same-length c = search needs
 
 returns : tie.Need-returns
 unfolding whole tableOf
-returns c = sym (call-by _ _ ∙ rw (verdict-refused (whole (c .before .before .before .before .before .before .before)) _ (sym (c .before .verdict .given .1) ∙ verdict-is (c .before .before .before))) refl)
+returns c =
+    let verdict = refused-verdict c in
+    sym (call-by _ _ ∙ rw (verdict-refused (whole (verdict-start verdict)) _ (sym (c .before .verdict .given .1) ∙ verdict-is verdict)) refl)
 
 enum-told : tie.Need-enum-told
 enum-told c = search needs
 
 stored-key-requires : tie.Need-stored-key-requires
-stored-key-requires c κs = ap keyInRange (rkey-kept (c .before .before .before .before .before .before)) ∙ passed c .readRange
+stored-key-requires c κs = ap keyInRange (rkey-kept (passed-start c)) ∙ passed c .readRange
 
 stored-key-requires-2 : tie.Need-stored-key-requires-2
-stored-key-requires-2 c κs = ap keyInRange (tkey-kept (c .before .before .before .before .before .before .before)) ∙ passed (c .before) .takeRange
+stored-key-requires-2 c κs = ap keyInRange (tkey-kept (passed-start (rkey-passed c))) ∙ passed (rkey-passed c) .takeRange
 
 add-row-requires : tie.Need-add-row-requires
-add-row-requires c κs = (passed (c .before .before .before) .isSound, passed (c .before .before .before) .room, passed (c .before .before .before) .few)
+add-row-requires c κs = let ok = passed (lent-passed c) in (ok .isSound, ok .room, ok .few)
 
 same-length-2 : tie.Need-same-length-2
 same-length-2 c = search needs
@@ -83,13 +112,16 @@ same-length-2 c = search needs
 returns-2 : tie.Need-returns-2
 unfolding whole tableOf
 returns-2 c =
-    let s = c .before .before .before .before .before .before .before .before .before .before .before .before in
+    let lent = end-added c .before in
+    let s = passed-start (lent-passed lent) in
     let a = s .args in
     let left : ℕ → ℕ → List ℕ =
     λ r t. encode (withEntries (decode (a .space .now) .entries ++ (entry (a .party) (a .rpart) r (a .tpart) t (a .fields .now) ∷ [])) (decode (a .space .now)))
     in
-    let keys = ap₂ left (c .before .before .before .before .before .stored-key .ensures ∙ ap stored (rkey-kept s)) (c .before .before .before .before .stored-key2 .ensures ∙ ap stored (tkey-kept s)) in
-    ap (λ (ws : List ℕ). exit done ws []) (c .before .before .add-row .ensures ∙ keys) ∙ sym (passes-call _ _ (no-refusal (c .before .before .before .before .before .before)))
+    let rkey = tkey-rkey (lent-tkey lent) .stored-key .ensures ∙ ap stored (rkey-kept s) in
+    let tkey = lent-tkey lent .stored-key2 .ensures ∙ ap stored (tkey-kept s) in
+    ap (λ (ws : List ℕ). exit done ws []) (end-added c .add-row .ensures ∙ ap₂ left rkey tkey)
+    ∙ sym (passes-call _ _ (no-refusal (lent-passed lent)))
 
 pub put-spec : {M : Type 1} → statement M
 put-spec =

@@ -8,6 +8,13 @@ use borrow.Author.Needs.{needs}
 use Rattle.space.proofs.read.Statement.{statement}
 use Rattle.space.proofs.read.Tie as tie
 
+-- the places of the walk, each by its way to the one before it: after the search, and its answer
+abbrev sought-start : tie.After-seek → tie.Start
+sought-start c = c .before .before .before .before .before .before
+
+abbrev answer-sought : tie.After-answer-of → tie.After-seek
+answer-sought c = c .before .before .before .before .before
+
 seek-requires : tie.Need-seek-requires
 seek-requires c κs = search needs
 
@@ -22,10 +29,12 @@ same-length-2 c = search needs
 
 returns : tie.Need-returns
 returns c =
-    let a = c .before .before .before .before .before .before .before .before .before .before .before .args in
+    let sought = answer-sought c in
+    let start = sought-start sought in
+    let a = start .args in
     let p = pair (a .partition) (a .key) in
-    ending (a .space .now) reading (a .party) p (a .fields .now) (a .result .now) (c .before .before .before .before .before .seek .result) _ _ (c .answer-of .ensures) (c .before .before .before .before .before .seek .ensures .1)
-    ∙ read-call _ _ _ _ (a .result .now) _ (sought-key _ _ _ _ _ _ _ _ _ (toZ-ofZ {w = w32} (c .before .before .before .before .before .before .before .before .before .before .before .fits .key)) (c .before .before .before .before .before .seek .ensures .0))
+    ending (a .space .now) reading (a .party) p (a .fields .now) (a .result .now) (sought .seek .result) _ _ (c .answer-of .ensures) (sought .seek .ensures .1)
+    ∙ read-call _ _ _ _ (a .result .now) _ (sought-key _ _ _ _ _ _ _ _ _ (toZ-ofZ {w = w32} (start .fits .key)) (sought .seek .ensures .0))
 
 pub read-spec : {M : Type 1} → statement M
 read-spec = tie.close (tie.spec seek-requires answer-of-requires same-length same-length-2 returns)

@@ -14,13 +14,44 @@ use borrow.Author.Needs.{needs}
 use Rattle.space.proofs.take.Statement.{statement}
 use Rattle.space.proofs.take.Tie as tie
 
+-- the places of the walk, each by its way to the one before it: after the search, its slices back, an entry found or not, the
+-- space lent, the row removed, and the end
+abbrev sought-start : tie.After-seek → tie.Start
+sought-start c = c .before .before .before .before .before .before
+
+abbrev back-sought : tie.After-slice-known4 → tie.After-seek
+back-sought c = c .before .before .before .before
+
+abbrev found-sought : tie.After-known-told → tie.After-seek
+found-sought c = back-sought (c .before .before .before)
+
+abbrev answer-unfound : tie.After-answer-of → tie.At-match-keys2
+answer-unfound c = c .before
+
+abbrev unfound-sought : tie.At-match-keys2 → tie.After-seek
+unfound-sought c = back-sought (c .before)
+
+abbrev lent-found : tie.After-remove-row-arg → tie.After-known-told
+lent-found c = c .before
+
+abbrev end-removed : tie.After-slice-known5 → tie.After-remove-row
+end-removed c = c .before .before
+
+-- what the result holds after the search
+abbrev answered : tie.After-seek → List ℕ
+answered c = c .seek .last .1 .1 .1 .1 .1 .1 .0
+
 found-is : (c : tie.After-seek)
-    → c .seek .result ≡ soughtIn (c .before .before .before .before .before .before .args .space .now) taking (c .before .before .before .before .before .before .args .party) (pair (c .before .before .before .before .before .before .args .partition) (c .before .before .before .before .before .before .args .key)) (c .before .before .before .before .before .before .args .fields .now) (length (c .before .before .before .before .before .before .args .result .now))
-found-is c = sought-key _ _ _ _ _ _ _ _ _ (toZ-ofZ {w = w32} (c .before .before .before .before .before .before .fits .key)) (c .seek .ensures .0)
+    → let a = sought-start c .args in
+    c .seek .result ≡ soughtIn (a .space .now) taking (a .party) (pair (a .partition) (a .key)) (a .fields .now) (length (a .result .now))
+found-is c = sought-key _ _ _ _ _ _ _ _ _ (toZ-ofZ {w = w32} (sought-start c .fits .key)) (c .seek .ensures .0)
 
 left : (c : tie.After-known-told)
-    → Removable (c .before .before .before .before .before .before .before .before .before .before .before .before .before .args .space .now) (c .before .before .before .before .before .before .before .before .before .before .before .before .before .args .party) (pair (c .before .before .before .before .before .before .before .before .before .before .before .before .before .args .partition) (c .before .before .before .before .before .before .before .before .before .before .before .before .before .args .key)) (c .before .before .before .before .before .before .before .before .before .before .before .before .before .args .fields .now) (c .before .before .before .before .before .before .before .before .before .before .before .before .before .args .result .now) (c .before .found .given .0 .0) (c .before .before .before .before .before .before .before .seek .last .0) (c .before .before .before .before .before .before .before .seek .last .1 .1 .1 .1 .1 .1 .0)
-left c = removable _ _ _ _ _ _ _ _ (found-is (c .before .before .before .before .before .before .before)) (c .before .before .before .before .before .before .before .seek .ensures .1) (c .before .found .given .1)
+    → let sought = found-sought c in
+    let a = sought-start sought .args in
+    Removable (a .space .now) (a .party) (pair (a .partition) (a .key)) (a .fields .now) (a .result .now) (c .before .found .given .0 .0)
+    (sought .seek .last .0) (answered sought)
+left c = let sought = found-sought c in removable _ _ _ _ _ _ _ _ (found-is sought) (sought .seek .ensures .1) (c .before .found .given .1)
 
 seek-requires : tie.Need-seek-requires
 seek-requires c κs = search needs
@@ -39,13 +70,15 @@ same-length-2 c = search needs
 
 returns : tie.Need-returns
 returns c =
-    let a = c .before .before .before .before .before .before .before .before .before .before .before .before .args in
+    let unfound = answer-unfound c in
+    let sought = unfound-sought unfound in
+    let a = sought-start sought .args in
     let p = pair (a .partition) (a .key) in
-    ending (a .space .now) taking (a .party) p (a .fields .now) (a .result .now) (c .before .before .before .before .before .before .seek .result) _ _ (c .answer-of .ensures) (c .before .before .before .before .before .before .seek .ensures .1)
-    ∙ unfound-call _ _ _ _ _ (a .result .now) _ (found-is (c .before .before .before .before .before .before)) (c .before .match .keys2)
+    ending (a .space .now) taking (a .party) p (a .fields .now) (a .result .now) (sought .seek .result) _ _ (c .answer-of .ensures) (sought .seek .ensures .1)
+    ∙ unfound-call _ _ _ _ _ (a .result .now) _ (found-is sought) (unfound .match .keys2)
 
 remove-row-requires : tie.Need-remove-row-requires
-remove-row-requires c κs = (left (c .before) .isSound, left (c .before) .below)
+remove-row-requires c κs = let ok = left (lent-found c) in (ok .isSound, ok .below)
 
 same-length-3 : tie.Need-same-length-3
 same-length-3 c = search needs
@@ -54,7 +87,12 @@ same-length-4 : tie.Need-same-length-4
 same-length-4 c = search needs
 
 returns-2 : tie.Need-returns-2
-returns-2 c = ap (λ (ws : List ℕ). exit (found (length (c .before .before .before .before .before .before .before .before .before .before .before .before .before .before .before .before .before .args .fields .now))) ws (c .before .before .before .before .before .before .before .before .before .before .before .seek .last .1 .1 .1 .1 .1 .1 .0)) (c .before .before .remove-row .ensures) ∙ left (c .before .before .before .before) .removed
+returns-2 c =
+    let removed = end-removed c in
+    let found-row = lent-found (removed .before) in
+    let sought = found-sought found-row in
+    let n = length (sought-start sought .args .fields .now) in
+    ap (λ (ws : List ℕ). exit (found n) ws (answered sought)) (removed .remove-row .ensures) ∙ left found-row .removed
 
 pub take-spec : {M : Type 1} → statement M
 take-spec =
