@@ -1,5 +1,5 @@
--- `code` meets its contract.
-use mathlib.Core.Path.{sym, ap, subst}
+-- `code` meets its contract: the answer is small, so its code fits, and each arm computes `codeOf` of its answer.
+use mathlib.Core.Path.{_≡_, sym, ap, subst}
 use native.Mathlib.Omega.{arith}
 use Rattle.space.specs.Answers.{meant, Small}
 use Rattle.space.specs.declared.Answer.{Answer}
@@ -8,6 +8,17 @@ use borrow.Author.Needs.{needs}
 use Rattle.space_c.proofs.code.Statement.{statement}
 use Rattle.space_c.proofs.code.Tie as tie
 
+-- the places of the walk where a number is known, each by its way to the start
+abbrev found-start : tie.After-known-told → tie.Start
+found-start c = c .before .before .before
+
+abbrev refused-start : tie.After-known-told2 → tie.Start
+refused-start c = c .before .before .before
+
+-- the answer in an arm is small
+small : (c : tie.Start) (a : Answer) → c .args .a ≡ a → Small (meant a)
+small c a e = subst (λ (x : Answer). Small (meant x)) e (c .pre)
+
 enum-told : tie.Need-enum-told
 enum-told c = search needs
 
@@ -15,7 +26,7 @@ enum-known-a : tie.Need-enum-known-a
 enum-known-a c = search needs
 
 cast-result : tie.Need-cast-result
-cast-result c = let n = subst (λ (a : Answer). Small (meant a)) (c .before .a .given .1) (c .before .before .before .pre) in record { fits = omega arith }
+cast-result c = let n = small (found-start c) _ (c .before .a .given .1) in record { fits = omega arith }
 
 enum-told-2 : tie.Need-enum-told-2
 enum-told-2 c = search needs
@@ -24,7 +35,7 @@ enum-known-a-2 : tie.Need-enum-known-a-2
 enum-known-a-2 c = search needs
 
 add-result : tie.Need-add-result
-add-result c = let n = subst (λ (a : Answer). Small (meant a)) (c .before .a2 .given .1) (c .before .before .before .pre) in record { fits = omega arith }
+add-result c = let n = small (refused-start c) _ (c .before .a2 .given .1) in record { fits = omega arith }
 
 returns : tie.Need-returns
 returns c = search needs
