@@ -44,8 +44,11 @@ passed-verdict c = c .before .before
 abbrev co-key-passed : tie.After-stored-co-key → tie.After-enum-told
 co-key-passed c = c .before
 
+abbrev lent-co-key : tie.After-search-arg → tie.After-stored-co-key
+lent-co-key c = c .before
+
 abbrev search-co-key : tie.After-search → tie.After-stored-co-key
-search-co-key c = c .before .before
+search-co-key c = lent-co-key (c .before)
 
 abbrev nothing-search : tie.After-enum-told2 → tie.After-search
 nothing-search c = c .before .before
@@ -53,11 +56,17 @@ nothing-search c = c .before .before
 abbrev found-search : tie.After-known-told2 → tie.After-search
 found-search c = c .before .before .before
 
+abbrev lent-found : tie.After-copy-out-arg2 → tie.After-known-told2
+lent-found c = c .before .before
+
 abbrev copied-found : tie.After-copy-out → tie.After-known-told2
-copied-found c = c .before .before .before
+copied-found c = lent-found (c .before)
+
+abbrev prefix-copied : tie.After-hold-names-arg → tie.After-copy-out
+prefix-copied c = c .before .before .before
 
 abbrev held-copied : tie.After-hold-names-arg2 → tie.After-copy-out
-held-copied c = c .before .before .before .before
+held-copied c = prefix-copied (c .before)
 
 abbrev passed-start : tie.After-enum-told → tie.Start
 passed-start c = verdict-start (passed-verdict c)
@@ -144,7 +153,7 @@ stored-co-key-requires : tie.Need-stored-co-key-requires
 stored-co-key-requires c κs = ap keyInRange (toZ-ofZ {w = w32} (passed-start c .fits .key)) ∙ passed c .range
 
 search-requires : tie.Need-search-requires
-search-requires c κs = let p = passed (co-key-passed (c .before)) in (p .isSound, cokey-small (c .before), p .few)
+search-requires c κs = let p = passed (co-key-passed (lent-co-key c)) in (p .isSound, cokey-small (lent-co-key c), p .few)
 
 enum-known-row : tie.Need-enum-known-row
 enum-known-row c = search needs
@@ -163,13 +172,13 @@ returns-2 c =
 
 copy-out-requires : tie.Need-copy-out-requires
 copy-out-requires c κs =
-    let found = c .before .before in
+    let found = lent-found c in
     let p = passed (found-passed found) in
     (sound-facts _ (p .isSound) .len, low-row found, p .few, p .fits)
 
 slice-reshare-prefix-hold-names : tie.Need-slice-reshare-prefix-hold-names
 slice-reshare-prefix-hold-names c =
-    let copy = c .before .before .before in
+    let copy = prefix-copied c in
     omega (arith, copy .copy-out .kept .1 .1 .1 .0, passed (found-passed (copied-found copy)) .fits)
 
 slice-aggregate-hold-names : tie.Need-slice-aggregate-hold-names
