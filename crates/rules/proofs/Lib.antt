@@ -17,4 +17,5 @@ pub mod Lift
 pub mod Decided
 pub mod Demand1
 pub mod Demand2
+pub mod Holdings
 pub mod Cases

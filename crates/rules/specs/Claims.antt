@@ -1,13 +1,14 @@
 -- The claims of demands 1 and 2, as statements about the definitions that the contracts cite. Demand 3 is `Isolation`, in Group.
 use mathlib.Core.Path.{_≡_}
+use mathlib.Core.Logic.{_⊎_}
 use mathlib.Core.Bool.{true, false}
 use mathlib.Core.Option.{none}
 use mathlib.Core.List.{List, [], _∷_, _++_, map}
-use Prim.Native.Nat.{ℕ, _≤_, _<_}
+use Prim.Native.Nat.{ℕ, _+_, _≤_, _<_}
 use lib.IntN.{ℤ}
 use lib.ListN.{length, getD, drop}
 use Rattle.rules.specs.Lists.{all, keep, All}
-use Rattle.rules.specs.Names.{keyInRange, coKey, stored, coStored}
+use Rattle.rules.specs.Names.{Name, partition, key, keyInRange, coKey, stored, coStored, defaultPartition, defaultKey, heldIn}
 use Rattle.rules.specs.Fields.{putField, fieldAgrees}
 use Rattle.rules.specs.Matching.{Pair, storedPair, Entry, Op, pairFor, matches}
 use Rattle.rules.specs.State.{holds, live, wrote}
@@ -128,3 +129,19 @@ LiveAreThePutsNotTaken =
     (old roster : List ℕ) → opening old roster .answer ≡ done → (cs : List (Call (List ℕ))) (who : ℕ)
     → keep (wrote who) (decode (run (opening old roster .space) cs) .entries)
     ≡ keep (wrote who) (map (λ l. l .entry) (keep untaken (ledger (opening old roster .space) cs [])))
+
+-- ---- who holds what
+
+-- N2, N3: the name is partition 0 or key 0
+abbrev pub IsDefault : Name → Type 0
+IsDefault n = (n ≡ partition defaultPartition) ⊎ (n ≡ key defaultKey)
+
+-- C1: what an opening leaves: no entry is live, and each party holds what its two roster words say and, besides, the defaults.
+-- This is said of every name; one out of range nobody holds, as a word has 64 bits and R9 keeps bit 63 of a key word clear
+pub record OpenedWith (roster after : List ℕ) : Type 0 where
+  pub noEntry : decode after .entries ≡ []
+  pub holdings : (who : ℕ) (n : Name) → who < 8
+      → Iff (holds (decode after) who n ≡ true) ((heldIn (getD roster who 0) (getD roster (8 + who) 0) n ≡ true) ⊎ IsDefault n)
+
+abbrev pub OpeningHoldings : Type 0
+OpeningHoldings = (ws roster : List ℕ) → opening ws roster .answer ≡ done → OpenedWith roster (opening ws roster .space)
