@@ -7,11 +7,14 @@ use mathlib.Core.List.{List, [], _∷_, _++_}
 use Prim.Native.Nat.{ℕ}
 use native.Mathlib.Omega.{arith}
 use Rattle.rules.specs.Lists.{All}
+use Rattle.rules.specs.State.{State}
 use Rattle.rules.specs.Calls.{Call, refused, Table, firstThatApplies, table, serve, decided, step}
 use Rattle.rules.specs.Words.{decode, sound, asked, resultOf, Exit, exit, exitOf, call, refusals}
 use Rattle.rules.specs.Claims.{Passes, FirstApplies}
 use Rattle.rules.proofs.ListLaws.{bool, not-false, passed}
-use Rattle.rules.proofs.Back.{encode-decode}
+use Rattle.rules.proofs.Kept.{wf-serve}
+use Rattle.rules.proofs.Back.{wf-decode, encode-decode}
+use Rattle.rules.proofs.WordRuns.{back}
 
 -- refused by a number and no word changed, or served
 abbrev pub callBy : Option ℕ → List ℕ → Call (List ℕ) → Exit
@@ -40,6 +43,20 @@ module _ (ws : List ℕ) (c : Call (List ℕ)) (e : Passes ws c) where
 
   pub passes-call : call ws c ≡ exitOf (serve (decode ws) (asked c)) (resultOf c)
   passes-call = call-by ws c ∙ rw e refl
+
+  pub passes-left : decode (call ws c .space) ≡ serve (decode ws) (asked c) .state
+  passes-left =
+      let s : State = serve (decode ws) (asked c) .state in
+      rw passes-call (back s (wf-serve (decode ws) (asked c) (wf-decode ws passes-sound) passes-table))
+
+-- what holds of the state before a call, and of the one that it is served with, holds of the state that it leaves
+pub call-leaves : (P : State → Type 0) (ws : List ℕ) (c : Call (List ℕ)) → P (decode ws)
+    → (Passes ws c → P (serve (decode ws) (asked c) .state)) → P (decode (call ws c .space))
+call-leaves P ws c before served = go (firstThatApplies (refusals ws c)) refl
+  where
+    go : (o : Option ℕ) → firstThatApplies (refusals ws c) ≡ o → P (decode (call ws c .space))
+    go (some n) e = rw (call-by ws c, e) before
+    go none e = rw (passes-left ws c e) (served e)
 
 -- ---- the first number of a table
 

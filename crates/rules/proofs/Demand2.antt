@@ -4,31 +4,31 @@ use mathlib.Core.Logic.{_⊎_, inl, inr}
 use mathlib.Core.Bool.{Bool, true, false, cond, true≢false}
 use mathlib.Core.Option.{Option, none, some}
 use mathlib.Core.List.{List, [], _∷_, _++_, map, map-append}
-use Prim.Native.Nat.{ℕ, zero, suc, _≤_, _<_, suc-le-suc}
+use Prim.Native.Nat.{ℕ, zero, suc, _+_, _≤_, _<_, suc-le-suc}
 use native.Mathlib.Omega.{arith}
 use native.Mathlib.Nat.{not-suc-le-zero, le-of-suc-le-suc, zero-lt-suc}
-use borrow.Author.Tests.{leb-true, le-ltb}
+use borrow.Author.Tests.{leb-true, le-ltb, ne-eqb}
 use lib.Dec.{leb, eqb}
 use lib.IntN.{ℤ}
-use lib.ListN.{length, getD, length-append}
+use lib.ListN.{length, getD, drop, length-append}
 use Rattle.rules.specs.Lists.{keep, first, without, All}
 use Rattle.rules.specs.Names.{coStored}
 use Rattle.rules.specs.Fields.{fieldAgrees}
-use Rattle.rules.specs.Matching.{Pair, storedPair, Entry, reading, taking, pairFor, fieldsAgree, partitionsAgree, keysAgree, matches}
-use Rattle.rules.specs.State.{State, withEntries, wrote, live, limitOf}
-use Rattle.rules.specs.Calls.{Call, put, seek, done, found, nothing, refused, firstThatApplies, putTable, Outcome, entryOf, remaining, gained, finding, serve, opened}
-use Rattle.rules.specs.Words.{decode, asked, exitOf, call, refusals, opening}
+use Rattle.rules.specs.Matching.{Pair, storedPair, Entry, Op, reading, taking, pairFor, fieldsAgree, partitionsAgree, keysAgree, matches}
+use Rattle.rules.specs.State.{State, giveAll, withEntries, wrote, live, limitOf}
+use Rattle.rules.specs.Calls.{Call, put, seek, done, found, nothing, refused, firstThatApplies, putTable, entryOf, remaining, gained, finding, serve, opened}
+use Rattle.rules.specs.Words.{decode, asked, call, refusals, opening}
 use Rattle.rules.specs.Runs.{run, Line, untaken, strike, recorded, ledger}
-use Rattle.rules.specs.Claims.{Passes, Matches, MatchingRule, StoredCoKey, NoneExactlyWhenNothingMatches, OldestMatch, FoundIsOldestMatch, NoRoomExactlyAtSixteen, RowsSuffice, LiveAreThePutsNotTaken}
+use Rattle.rules.specs.Claims.{Passes, Matches, MatchingRule, StoredCoKey, NoneExactlyWhenNothingMatches, FoundIsOldestMatch, TakeRemoves, ReadRemovesNothing, NoRoomExactlyAtSixteen, RowsSuffice, LiveAreThePutsNotTaken}
 use Rattle.rules.proofs.BitLaws.{eqb-true, eqb-same}
-use Rattle.rules.proofs.ListLaws.{bool, and-left, and-right, keep-append}
+use Rattle.rules.proofs.ListLaws.{bool, and-left, and-right, without-split, keep-append}
 use Rattle.rules.proofs.KeyLaws.{stored-le, co-stored}
 use Rattle.rules.proofs.Rows.{WF}
-use Rattle.rules.proofs.Kept.{wf-serve, few-rows}
+use Rattle.rules.proofs.Kept.{live-amid, wf-serve, few-rows}
 use Rattle.rules.proofs.Back.{each, wf-decode}
 use Rattle.rules.proofs.Gifts.{giveAll-entries}
 use Rattle.rules.proofs.WordRuns.{back, Opened, open-done}
-use Rattle.rules.proofs.Decided.{callBy, call-by, passes-sound, passes-table, passes-call}
+use Rattle.rules.proofs.Decided.{callBy, call-by, passes-table, passes-call, passes-left, call-leaves}
 
 -- ---- the matching rule
 
@@ -120,9 +120,19 @@ none-exactly-when-nothing-matches ws op who p t result e =
     there none h = refl
     there (some x) h = let z : _≡_ {A = ℕ} 0 1 = cc in absurd (omega arith)
 
-pub found-is-oldest-match : FoundIsOldestMatch
-found-is-oldest-match ws op who p t result n e =
-    rw (call-by ws c) (go (firstThatApplies (refusals ws c)) (rw (call-by ws c) at e))
+-- what a read or take found, wrote and left
+pub record Found (ws : List ℕ) (op : Op) (who : ℕ) (p : Pair ℤ) (t result : List ℕ) (n : ℕ) : Type 0 where
+  pub passes : Passes ws (seek op who p t result)
+  pub entry : Entry
+  pub oldest : first (matches op (storedPair p) t) (decode ws .entries) ≡ some entry
+  pub count : n ≡ length (entry .fields)
+  pub written : call ws (seek op who p t result) .result ≡ entry .fields ++ drop n result
+  pub left : decode (call ws (seek op who p t result) .space)
+      ≡ giveAll who (gained op entry) (withEntries (remaining op (matches op (storedPair p) t) (decode ws .entries)) (decode ws))
+
+pub found-by : (ws : List ℕ) (op : Op) (who : ℕ) (p : Pair ℤ) (t result : List ℕ) (n : ℕ)
+    → call ws (seek op who p t result) .answer ≡ found n → Found ws op who p t result n
+found-by ws op who p t result n a = go (firstThatApplies (refusals ws c)) refl
   where
     c : Call (List ℕ)
     c = seek op who p t result
@@ -130,31 +140,76 @@ found-is-oldest-match ws op who p t result n e =
     m : Entry → Bool
     m = matches op (storedPair p) t
 
-    es : List Entry
-    es = decode ws .entries
-
-    outcome : Option Entry → Outcome
-    outcome o = finding op who o (remaining op m es) (decode ws)
-
-    search : (o : Option Entry) → first m es ≡ o → outcome o .answer ≡ found n → OldestMatch ws op p t result n (exitOf (outcome o) result .result)
-    search none q a = let z : _≡_ {A = ℕ} 0 1 = cc in absurd (omega arith)
-    search (some x) q a =
-        let k : n ≡ length (x .fields) = cc in
-        let s : Split m es x = first-split m es x q in
+    search : Passes ws c → (o : Option Entry) → first m (decode ws .entries) ≡ o → Found ws op who p t result n
+    search e none q =
+        let x : call ws c .answer ≡ nothing = rw (passes-call ws c e, q) refl in
+        let z : _≡_ {A = ℕ} 0 1 = cc in absurd (omega arith)
+    search e (some y) q =
+        let x : call ws c .answer ≡ found (length (y .fields)) = rw (passes-call ws c e, q) refl in
+        let k : n ≡ length (y .fields) = cc in
         record {
-          older = s .older;
-          entry = x;
-          newer = s .newer;
-          place = s .place;
-          noOlder = s .noOlder;
-          match = s .match;
+          passes = e;
+          entry = y;
+          oldest = q;
           count = k;
-          written = rw k refl;
+          written = rw (k, passes-call ws c e, q) refl;
+          left = passes-left ws c e ∙ rw q refl;
         }
 
-    go : (o : Option ℕ) → callBy o ws c .answer ≡ found n → OldestMatch ws op p t result n (callBy o ws c .result)
-    go (some k) a = let z : _≡_ {A = ℕ} 0 1 = cc in absurd (omega arith)
-    go none a = search (first m es) refl a
+    go : (o : Option ℕ) → firstThatApplies (refusals ws c) ≡ o → Found ws op who p t result n
+    go (some k) e =
+        let x : call ws c .answer ≡ refused k = rw (call-by ws c, e) refl in
+        let z : _≡_ {A = ℕ} 0 1 = cc in absurd (omega arith)
+    go none e = search e (first m (decode ws .entries)) refl
+
+pub found-is-oldest-match : FoundIsOldestMatch
+found-is-oldest-match ws op who p t result n a =
+    let f : Found ws op who p t result n = found-by ws op who p t result n a in
+    let s : Split (matches op (storedPair p) t) (decode ws .entries) (f .entry) = first-split _ _ _ (f .oldest) in
+    record {
+      older = s .older;
+      entry = f .entry;
+      newer = s .newer;
+      place = s .place;
+      noOlder = s .noOlder;
+      match = s .match;
+      count = f .count;
+      written = f .written;
+    }
+
+-- ---- what a search leaves
+
+pub take-removes : TakeRemoves
+take-removes ws who p t result n a m =
+    record {
+      rest = rest;
+      writer = rw (m .place, rest) (charge w ∙ rw (eqb-same w) (omega arith));
+      others = λ q ne. rw (m .place, rest) (sym (charge q ∙ rw (ne-eqb w q (λ e. ne (sym e))) (omega arith)));
+    }
+  where
+    w : ℕ
+    w = m .entry .writer
+
+    charge : (q : ℕ) → live q (m .older ++ (m .entry ∷ m .newer)) ≡ live q (m .older ++ m .newer) + cond (wrote q (m .entry)) 1 0
+    charge q = live-amid q (m .older) (m .entry) (m .newer)
+
+    f : Found ws taking who p t result n
+    f = found-by ws taking who p t result n a
+
+    rest : decode (call ws (seek taking who p t result) .space) .entries ≡ m .older ++ m .newer
+    rest = ap (λ s. s .entries) (f .left) ∙ giveAll-entries who (gained taking (f .entry)) _
+        ∙ rw (m .place) (without-split _ (m .older) (m .entry) (m .newer) (m .noOlder) (m .match))
+
+read-entries : (s : State) (who : ℕ) (p : Pair ℤ) (t : List ℕ) (room : ℕ) → serve s (seek reading who p t room) .state .entries ≡ s .entries
+read-entries s who p t room = go (first (matches reading (storedPair p) t) (s .entries))
+  where
+    go : (o : Option Entry) → finding reading who o (s .entries) s .state .entries ≡ s .entries
+    go none = refl
+    go (some x) = giveAll-entries who (gained reading x) s
+
+pub read-removes-nothing : ReadRemovesNothing
+read-removes-nothing ws who p t result =
+    call-leaves (λ s. s .entries ≡ decode ws .entries) ws (seek reading who p t result) refl (λ e. read-entries (decode ws) who p t (length result))
 
 -- ---- room
 
@@ -226,11 +281,7 @@ recorded-refused (seek taking who p t result) n ls = refl
 serve-recorded : (s : State) (c : Call (List ℕ)) (ls : List Line) → s .entries ≡ entriesOf ls
     → serve s (asked c) .state .entries ≡ entriesOf (recorded c (serve s (asked c) .answer) ls)
 serve-recorded s (put who r t fs) ls e = rw e (sym (entries-snoc ls (entryOf who r t fs)))
-serve-recorded s (seek reading who p t result) ls e = go (first (matches reading (storedPair p) t) (s .entries)) ∙ e
-  where
-    go : (o : Option Entry) → finding reading who o (s .entries) s .state .entries ≡ s .entries
-    go none = refl
-    go (some x) = giveAll-entries who (gained reading x) s
+serve-recorded s (seek reading who p t result) ls e = read-entries s who p t (length result) ∙ e
 serve-recorded s (seek taking who p t result) ls e = go (first m (s .entries))
   where
     m : Entry → Bool
@@ -243,15 +294,12 @@ serve-recorded s (seek taking who p t result) ls e = go (first m (s .entries))
 
 call-recorded : (ws : List ℕ) (c : Call (List ℕ)) (ls : List Line) → decode ws .entries ≡ entriesOf ls
     → decode (call ws c .space) .entries ≡ entriesOf (recorded c (call ws c .answer) ls)
-call-recorded ws c ls e = rw (call-by ws c) (go (firstThatApplies (refusals ws c)) refl)
+call-recorded ws c ls e = go (firstThatApplies (refusals ws c)) refl
   where
     go : (o : Option ℕ) → firstThatApplies (refusals ws c) ≡ o
-        → decode (callBy o ws c .space) .entries ≡ entriesOf (recorded c (callBy o ws c .answer) ls)
-    go (some n) q = rw (recorded-refused c n ls) e
-    go none q =
-        let s : State = serve (decode ws) (asked c) .state in
-        let w : WF s = wf-serve (decode ws) (asked c) (wf-decode ws (passes-sound ws c q)) (passes-table ws c q) in
-        rw (back s w) (serve-recorded (decode ws) c ls e)
+        → decode (call ws c .space) .entries ≡ entriesOf (recorded c (call ws c .answer) ls)
+    go (some n) q = rw (call-by ws c, q) (rw (recorded-refused c n ls) e)
+    go none q = rw (passes-left ws c q, passes-call ws c q) (serve-recorded (decode ws) c ls e)
 
 run-recorded : (cs : List (Call (List ℕ))) (ws : List ℕ) (ls : List Line) → decode ws .entries ≡ entriesOf ls
     → decode (run ws cs) .entries ≡ entriesOf (ledger ws cs ls)

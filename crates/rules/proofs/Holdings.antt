@@ -12,7 +12,7 @@ use Rattle.rules.specs.Names.{Name, partition, key, bit, withBit, defaul
 use Rattle.rules.specs.State.{holds}
 use Rattle.rules.specs.Calls.{opened}
 use Rattle.rules.specs.Words.{decode, opening}
-use Rattle.rules.specs.Claims.{Iff, IsDefault, OpenedWith, OpeningHoldings}
+use Rattle.rules.specs.Claims.{Iff, IsDefault, OpeningHoldings}
 use Rattle.rules.proofs.BitLaws.{bit-with, bit-kept, bit-self}
 use Rattle.rules.proofs.WordRuns.{back, Opened, open-done}
 

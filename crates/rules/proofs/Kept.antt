@@ -1,9 +1,9 @@
 -- Every call, and every opening, leaves a state that the layout can hold, and 128 rows suffice for it.
-use mathlib.Core.Path.{_≡_, refl, ap, _∙_}
+use mathlib.Core.Path.{_≡_, refl, _∙_}
 use mathlib.Core.Logic.{_⊎_, inl, inr, _≢_}
 use mathlib.Core.Bool.{Bool, true, false, not, cond, true≢false, false≢true}
 use mathlib.Core.Option.{Option, none, some}
-use mathlib.Core.List.{List, [], _∷_, _++_, map}
+use mathlib.Core.List.{List, [], _∷_, _++_, append-nil, map}
 use Prim.Native.Nat.{ℕ, zero, suc, _+_, _*_, _/_, _%_, _≤_, _<_, suc-le-suc}
 use native.Mathlib.Omega.{arith}
 use native.Mathlib.Nat.{le-refl, le-trans, le-suc, not-suc-le-zero}
@@ -37,15 +37,15 @@ some-of (suc n) e = omega arith
 
 -- ---- counting a party's entries
 
-live-snoc : (p : ℕ) (es : List Entry) (e : Entry) → live p (es ++ (e ∷ [])) ≡ live p es + cond (wrote p e) 1 0
+-- one entry more, wherever it stands
+pub live-amid : (p : ℕ) (l : List Entry) (e : Entry) (r : List Entry) → live p (l ++ (e ∷ r)) ≡ live p (l ++ r) + cond (wrote p e) 1 0
 unfolding live
-live-snoc p es e =
-    rw (keep-append (wrote p) es (e ∷ []), length-append (keep (wrote p) es) (keep (wrote p) (e ∷ [])))
-    (ap (λ n. length (keep (wrote p) es) + n) (go (wrote p e)))
+live-amid p l e r = simp (keep-append, length-append) (go (wrote p e))
   where
-    go : (b : Bool) → length (cond b (e ∷ []) []) ≡ cond b 1 0
-    go true = refl
-    go false = refl
+    go : (b : Bool) → length (keep (wrote p) l) + length (cond b (e ∷ keep (wrote p) r) (keep (wrote p) r))
+        ≡ length (keep (wrote p) l) + length (keep (wrote p) r) + cond b 1 0
+    go true = omega arith
+    go false = omega arith
 
 live-tail : (p : ℕ) (e : Entry) (es : List Entry) → live p es ≤ live p (e ∷ es)
 unfolding live
@@ -216,7 +216,7 @@ wf-serve s (put who r t fs) h q =
     e = entryOf who r t fs
 
     room : live who (s .entries) < limitOf s who → (p : ℕ) → live p (s .entries ++ (e ∷ [])) ≤ limitOf s p
-    room l p = rw (live-snoc p (s .entries) e) (go (bool (eqb who p)))
+    room l p = rw (live-amid p (s .entries) e [], append-nil (s .entries)) (go (bool (eqb who p)))
       where
         go : (eqb who p ≡ true) ⊎ (eqb who p ≡ false) → live p (s .entries) + cond (eqb who p) 1 0 ≤ limitOf s p
         go (inl q) = rw (q, ← (eqb-true who p q)) (omega arith)

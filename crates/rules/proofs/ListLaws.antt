@@ -83,6 +83,11 @@ module _ {A : Type 0} where
           (subst P q (h .0), sym (ap m q) ∙ t)
       go (inr t) r = r (rw t at e)
 
+  pub without-split : (m : A → Bool) (l : List A) (x : A) (r : List A) → All (λ e. m e ≡ false) l → m x ≡ true
+      → without m (l ++ (x ∷ r)) ≡ l ++ r
+  without-split m [] x r h e = rw e refl
+  without-split m (y ∷ l) x r h e = rw (h .0) (ap (λ t. y ∷ t) (without-split m l x r (h .1) e))
+
   pub keep-append : (p : A → Bool) (l r : List A) → keep p (l ++ r) ≡ keep p l ++ keep p r
   keep-append p [] r = refl
   keep-append p (x ∷ l) r = go (p x) (keep-append p l r)

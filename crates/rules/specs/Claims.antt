@@ -1,16 +1,16 @@
 -- The claims of demands 1 and 2, as statements about the definitions that the contracts cite. Demand 3 is `Isolation`, in Group.
 use mathlib.Core.Path.{_≡_}
-use mathlib.Core.Logic.{_⊎_}
+use mathlib.Core.Logic.{_⊎_, _≢_}
 use mathlib.Core.Bool.{true, false}
 use mathlib.Core.Option.{none}
 use mathlib.Core.List.{List, [], _∷_, _++_, map}
-use Prim.Native.Nat.{ℕ, _+_, _≤_, _<_}
+use Prim.Native.Nat.{ℕ, suc, _+_, _≤_, _<_}
 use lib.IntN.{ℤ}
 use lib.ListN.{length, getD, drop}
 use Rattle.rules.specs.Lists.{all, keep, All}
 use Rattle.rules.specs.Names.{Name, partition, key, keyInRange, coKey, stored, coStored, defaultPartition, defaultKey, heldIn}
 use Rattle.rules.specs.Fields.{putField, fieldAgrees}
-use Rattle.rules.specs.Matching.{Pair, storedPair, Entry, Op, pairFor, matches}
+use Rattle.rules.specs.Matching.{Pair, storedPair, Entry, Op, reading, taking, pairFor, matches}
 use Rattle.rules.specs.State.{holds, live, wrote}
 use Rattle.rules.specs.Calls.{Call, put, seek, done, found, nothing, refused, Table, firstThatApplies, badCount, badPair, putNames}
 use Rattle.rules.specs.Words.{decode, sound, resultOf, call, refusals, badRoster, openRefusals, opening}
@@ -100,6 +100,26 @@ FoundIsOldestMatch =
     (ws : List ℕ) (op : Op) (who : ℕ) (p : Pair ℤ) (t result : List ℕ) (n : ℕ)
     → call ws (seek op who p t result) .answer ≡ found n
     → OldestMatch ws op p t result n (call ws (seek op who p t result) .result)
+
+-- C4: the entry is gone and the rest keeps its order; its writer is charged for one entry less, and nobody else's charge changes
+pub record Removed (older : List Entry) (entry : Entry) (newer : List Entry) (ws after : List ℕ) : Type 0 where
+  pub rest : decode after .entries ≡ older ++ newer
+  pub writer : live (entry .writer) (decode ws .entries) ≡ suc (live (entry .writer) (decode after .entries))
+  pub others : (who : ℕ) → who ≢ entry .writer → live who (decode after .entries) ≡ live who (decode ws .entries)
+
+-- C4: a take removes the oldest match
+abbrev pub TakeRemoves : Type 0
+TakeRemoves =
+    (ws : List ℕ) (who : ℕ) (p : Pair ℤ) (t result : List ℕ) (n : ℕ)
+    → call ws (seek taking who p t result) .answer ≡ found n
+    → (m : OldestMatch ws taking p t result n (call ws (seek taking who p t result) .result))
+    → Removed (m .older) (m .entry) (m .newer) ws (call ws (seek taking who p t result) .space)
+
+-- C3: a read removes nothing, whatever it answers
+abbrev pub ReadRemovesNothing : Type 0
+ReadRemovesNothing =
+    (ws : List ℕ) (who : ℕ) (p : Pair ℤ) (t result : List ℕ)
+    → decode (call ws (seek reading who p t result) .space) .entries ≡ decode ws .entries
 
 -- R1 to R7 turn the put away by no test
 pub record PassesOneToSeven (ws : List ℕ) (who : ℕ) (r t : Pair ℤ) (fs : List ℕ) : Type 0 where
