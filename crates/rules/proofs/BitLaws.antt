@@ -89,6 +89,13 @@ bit-self w c =
     let o : 2 ^ c / 2 ^ c ≡ 1 = ap (λ (x : ℕ). x / 2 ^ c) (sym (one-mul (2 ^ c))) ∙ shl-shr 1 c in
     rw (or-bit w (2 ^ c) c, o, max-eq-right {m = 1} (le-of-suc-le-suc l)) refl
 
+pub bit-set-kept : (l : List ℕ) (who p c d : ℕ) → bit (getD l p 0) d ≡ true → bit (getD (set l who (withBit (getD l who 0) c)) p 0) d ≡ true
+bit-set-kept [] who p c d h = h
+bit-set-kept (x ∷ l) zero zero c d h = bit-kept x c d h
+bit-set-kept (x ∷ l) zero (suc p) c d h = h
+bit-set-kept (x ∷ l) (suc who) zero c d h = h
+bit-set-kept (x ∷ l) (suc who) (suc p) c d h = bit-set-kept l who p c d h
+
 -- a 64-bit word has no bit past 63
 pub no-bit : (w c : ℕ) → w < 2 ^ 64 → 64 ≤ c → false ≡ bit w c
 no-bit w c h l = let z : w / 2 ^ c ≡ 0 = div-eq-of-lt (lt-of-lt-of-le h (pow-mono l)) in rw z

@@ -8,9 +8,10 @@ use native.Mathlib.Omega.{arith}
 use native.Mathlib.Decide.{ℕ-discrete}
 use lib.ListN.{length, getD, set, length-set}
 use lib.Seq.{getD-set-same, getD-set-other}
+use Rattle.rules.specs.Lists.{In}
 use Rattle.rules.specs.Names.{Name, partition, key, heldIn, withBit}
 use Rattle.rules.specs.State.{State, holds, give, giveAll}
-use Rattle.rules.proofs.BitLaws.{bit-set}
+use Rattle.rules.proofs.BitLaws.{bit-set, bit-self, bit-set-kept}
 
 give-entries : (who : ℕ) (n : Name) (s : State) → give who n s .entries ≡ s .entries
 unfolding give
@@ -61,6 +62,36 @@ holds-give who p (partition c) (partition d) s h = elim (bit-set (s .partitions)
 holds-give who p (partition c) (key d) s h = inl h
 holds-give who p (key c) (partition d) s h = inl h
 holds-give who p (key c) (key d) s h = elim (bit-set (s .keys) who p c d h) [ inl a ↦ inl a | inr e ↦ inr (ap key e) ]
+
+pub holds-giveAll : (who p : ℕ) (ns : List Name) (m : Name) (s : State) → holds (giveAll who ns s) p m ≡ true → (holds s p m ≡ true) ⊎ In m ns
+holds-giveAll who p [] m s h = inl h
+holds-giveAll who p (n ∷ ns) m s h =
+    elim (holds-giveAll who p ns m (give who n s) h) [
+      | inl a ↦ elim (holds-give who p n m s a) [ inl b ↦ inl b | inr e ↦ inr (inl e) ]
+      | inr i ↦ inr (inr i)
+    ]
+
+-- and what was held before, and the gift, is held after it
+give-kept : (who p : ℕ) (n m : Name) (s : State) → holds s p m ≡ true → holds (give who n s) p m ≡ true
+unfolding give holds heldIn
+give-kept who p (partition c) (partition d) s h = bit-set-kept (s .partitions) who p c d h
+give-kept who p (partition c) (key d) s h = h
+give-kept who p (key c) (partition d) s h = h
+give-kept who p (key c) (key d) s h = bit-set-kept (s .keys) who p c d h
+
+pub giveAll-kept : (who p : ℕ) (ns : List Name) (m : Name) (s : State) → holds s p m ≡ true → holds (giveAll who ns s) p m ≡ true
+giveAll-kept who p [] m s h = h
+giveAll-kept who p (n ∷ ns) m s h = giveAll-kept who p ns m (give who n s) (give-kept who p n m s h)
+
+give-has : (who : ℕ) (n : Name) (s : State) → who < 8 → EightEach s → holds (give who n s) who n ≡ true
+unfolding give holds heldIn
+give-has who (partition c) s w l = rw (getD-set-same (s .partitions) who _ 0 (omega (arith, l .0))) (bit-self (getD (s .partitions) who 0) c)
+give-has who (key c) s w l = rw (getD-set-same (s .keys) who _ 0 (omega (arith, l .1))) (bit-self (getD (s .keys) who 0) c)
+
+pub giveAll-has : (who : ℕ) (ns : List Name) (m : Name) (s : State) → who < 8 → EightEach s → In m ns → holds (giveAll who ns s) who m ≡ true
+giveAll-has who [] m s w l i = absurd i
+giveAll-has who (n ∷ ns) m s w l (inl e) = giveAll-kept who who ns m (give who n s) (rw (← e) (give-has who n s w l))
+giveAll-has who (n ∷ ns) m s w l (inr i) = giveAll-has who ns m (give who n s) w (give-eight who n s l) i
 
 -- the same change to a word of each of two lists
 set-alike : (l₁ l₂ : List ℕ) (f : ℕ → ℕ) (who p : ℕ) → who < length l₁ → who < length l₂

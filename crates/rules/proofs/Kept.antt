@@ -4,22 +4,23 @@ use mathlib.Core.Logic.{_⊎_, inl, inr, _≢_}
 use mathlib.Core.Bool.{Bool, true, false, not, cond, true≢false, false≢true}
 use mathlib.Core.Option.{Option, none, some}
 use mathlib.Core.List.{List, [], _∷_, _++_, append-nil, map}
-use Prim.Native.Nat.{ℕ, zero, suc, _+_, _*_, _/_, _%_, _≤_, _<_, suc-le-suc}
+use Prim.Native.Nat.{ℕ, zero, suc, _+_, _*_, _≤_, _<_, suc-le-suc}
 use native.Mathlib.Omega.{arith}
 use native.Mathlib.Nat.{le-refl, le-trans, le-suc, not-suc-le-zero}
-use lib.Dec.{T, leb, ltb, eqb, nleb→lt, nltb→le, ltb→lt}
+use lib.Dec.{T, leb, ltb, eqb, nleb→lt, nltb→le}
 use lib.IntN.{ℤ}
 use lib.ListN.{length, getD, set, take, drop, length-append, length-set, length-map, length-take, length-drop}
 use Rattle.rules.specs.Lists.{all, keep, first, without, All}
-use Rattle.rules.specs.Names.{Name, partition, key, keyInRange, bit, withBit, defaultPartition, defaultKey}
-use Rattle.rules.specs.Fields.{Field, message, name, wildcard, bad, fieldOf, field, putField, nameIn, namesIn}
+use Rattle.rules.specs.Names.{Name, partition, key, NameInRange, keyInRange, bit, withBit, defaultPartition, defaultKey}
+use Rattle.rules.specs.Fields.{Field, message, name, wildcard, bad, field, putField, nameIn, namesIn}
 use Rattle.rules.specs.Matching.{Pair, storedPair, Entry, Op, reading, taking, matches}
 use Rattle.rules.specs.State.{State, give, giveAll, withEntries, wrote, live, limitOf}
-use Rattle.rules.specs.Calls.{Call, put, seek, firstThatApplies, badPair, putTable, table}
+use Rattle.rules.specs.Calls.{Call, put, seek, partyOf, firstThatApplies, badPair, putTable, seekTable, table}
 use Rattle.rules.specs.Calls.{entryOf, remaining, gained, finding, serve, decided, step, opened}
-use Rattle.rules.proofs.BitLaws.{tOf, eqb-true, eqb-same, bit-with, bit-kept, bit-self}
+use Rattle.rules.proofs.BitLaws.{eqb-true, eqb-same, bit-with, bit-kept, bit-self}
 use Rattle.rules.proofs.ListLaws.{bool, clash, and-left, and-right, or-left, or-right, not-false, passed, All-map, All-snoc, All-without, keep-append}
 use Rattle.rules.proofs.KeyLaws.{stored-le}
+use Rattle.rules.proofs.FieldLaws.{name-words}
 use Rattle.rules.proofs.Rows.{PairOk, EntryOk, WF}
 
 tNot : {b : Bool} → b ≡ false → T (not b)
@@ -81,34 +82,19 @@ live-keep p q (e ∷ es) = go (q e) (live-keep p q es)
 
 -- ---- names in range
 
-abbrev pub NameOk : Name → Type 0
-NameOk (partition c) = c ≤ 63
-NameOk (key k) = k ≤ 62
-
 All-append : {A : Type 0} (P : A → Type 0) (l r : List A) → All P l → All P r → All P (l ++ r)
 All-append P [] r h k = k
 All-append P (x ∷ l) r h k = (h .0, All-append P l r (h .1) k)
 
-abbrev FieldOk : Field → Type 0
-FieldOk f = All NameOk (nameIn f)
+field-ok : (w : ℕ) (f : Field) → field w ≡ f → All NameInRange (nameIn f)
+field-ok w (message v) e = tt
+field-ok w (name n) e = (name-words w n .0 e .1, tt)
+field-ok w wildcard e = tt
+field-ok w bad e = tt
 
-either-ok : (b : Bool) (f g : Field) → (b ≡ true → FieldOk f) → FieldOk g → FieldOk (cond b f g)
-either-ok true f g h k = h refl
-either-ok false f g h k = k
-
-field-ok : (k v : ℕ) → FieldOk (fieldOf k v)
-field-ok k v =
-    let named : (b : ℕ) (n : Name) → (v < b → NameOk n) → FieldOk (cond (ltb v b) (name n) bad) =
-    λ b n h. either-ok (ltb v b) (name n) bad (λ e. (h (ltb→lt v b (tOf e)), tt)) tt in
-    either-ok (eqb k 0) (message v) _ (λ e. tt)
-    (either-ok (eqb k 1) _ _ (λ e. named 64 (partition v) (λ u. omega arith))
-    (either-ok (eqb k 2) _ _ (λ e. named 63 (key v) (λ u. omega arith))
-    (either-ok (eqb k 3) _ bad (λ e. either-ok (eqb v 0) wildcard bad (λ e. tt) tt) tt)))
-
-pub namesIn-ok : (ws : List ℕ) → All NameOk (namesIn ws)
-unfolding field
+pub namesIn-ok : (ws : List ℕ) → All NameInRange (namesIn ws)
 namesIn-ok [] = tt
-namesIn-ok (w ∷ ws) = All-append NameOk (nameIn (field w)) (namesIn ws) (field-ok (w / 4294967296) (w % 4294967296)) (namesIn-ok ws)
+namesIn-ok (w ∷ ws) = All-append NameInRange (nameIn (field w)) (namesIn ws) (field-ok w (field w) refl) (namesIn-ok ws)
 
 -- ---- holdings
 
@@ -129,7 +115,7 @@ clear63 w k l h = go (bool (bit (withBit w k) 63))
     go (inl e) = absurd (never (bit-with w k 63 e))
     go (inr e) = rw e refl
 
-wf-give : (who : ℕ) (n : Name) (s : State) → NameOk n → WF s → WF (give who n s)
+wf-give : (who : ℕ) (n : Name) (s : State) → NameInRange n → WF s → WF (give who n s)
 unfolding give
 wf-give who (partition c) s o h =
     record {
@@ -152,7 +138,7 @@ wf-give who (key k) s o h =
       limits = h .limits;
     }
 
-pub wf-giveAll : (who : ℕ) (ns : List Name) (s : State) → All NameOk ns → WF s → WF (giveAll who ns s)
+pub wf-giveAll : (who : ℕ) (ns : List Name) (s : State) → All NameInRange ns → WF s → WF (giveAll who ns s)
 wf-giveAll who [] s o h = h
 wf-giveAll who (n ∷ ns) s o h = wf-giveAll who ns (give who n s) (o .1) (wf-give who n s (o .0) h)
 
@@ -205,6 +191,12 @@ remaining-live taking m es p = live-without p m es
 pub wf-remaining : (op : Op) (m : Entry → Bool) (s : State) → WF s → WF (withEntries (remaining op m (s .entries)) s)
 wf-remaining op m s h =
     wf-with (remaining op m (s .entries)) s h (remaining-ok op m (s .entries) (h .rows)) (λ q. le-trans (remaining-live op m (s .entries) q) (h .limits q))
+
+-- the party of a call that no test turns away
+pub party-ok : (s : State) (c : Call ℕ) → firstThatApplies (table s c) ≡ none → partyOf c < 8
+unfolding putTable seekTable
+party-ok s (put who r t fs) h = suc-le-suc (ltb-false (passed (putTable s who r t fs) h .0))
+party-ok s (seek op who p t room) h = suc-le-suc (ltb-false (passed (seekTable s who p t room) h .0))
 
 -- a call that no test turns away
 pub wf-serve : (s : State) (c : Call ℕ) → WF s → firstThatApplies (table s c) ≡ none → WF (serve s c .state)

@@ -6,10 +6,10 @@ use mathlib.Core.Option.{none}
 use mathlib.Core.List.{List, [], _∷_, _++_, map}
 use Prim.Native.Nat.{ℕ, suc, _+_, _≤_, _<_}
 use lib.IntN.{ℤ}
-use lib.ListN.{length, getD, drop}
-use Rattle.rules.specs.Lists.{all, keep, All}
+use lib.ListN.{length, getD, take, drop}
+use Rattle.rules.specs.Lists.{all, keep, All, In}
 use Rattle.rules.specs.Names.{Name, partition, key, keyInRange, coKey, stored, coStored, defaultPartition, defaultKey, heldIn}
-use Rattle.rules.specs.Fields.{putField, fieldAgrees}
+use Rattle.rules.specs.Fields.{putField, namesIn, fieldAgrees}
 use Rattle.rules.specs.Matching.{Pair, storedPair, Entry, Op, reading, taking, pairFor, matches}
 use Rattle.rules.specs.State.{holds, live, wrote}
 use Rattle.rules.specs.Calls.{Call, put, seek, done, found, nothing, refused, Table, firstThatApplies, badCount, badPair, putNames}
@@ -165,3 +165,35 @@ pub record OpenedWith (roster after : List ℕ) : Type 0 where
 
 abbrev pub OpeningHoldings : Type 0
 OpeningHoldings = (ws roster : List ℕ) → opening ws roster .answer ≡ done → OpenedWith roster (opening ws roster .space)
+
+-- F5: the names in the n fields that a read or take has found
+abbrev pub foundNames : List ℕ → Call (List ℕ) → ℕ → List Name
+foundNames ws c n = namesIn (take n (call ws c .result))
+
+-- C3: the party holds what it held and these names, nothing else, and nobody else's holdings change
+pub record Gains (who : ℕ) (names : List Name) (ws after : List ℕ) : Type 0 where
+  pub own : (n : Name) → Iff (holds (decode after) who n ≡ true) ((holds (decode ws) who n ≡ true) ⊎ In n names)
+  pub others : (p : ℕ) (n : Name) → p ≢ who → holds (decode after) p n ≡ holds (decode ws) p n
+
+abbrev pub FoundGives : Type 0
+FoundGives =
+    (ws : List ℕ) (op : Op) (who : ℕ) (p : Pair ℤ) (t result : List ℕ) (n : ℕ)
+    → call ws (seek op who p t result) .answer ≡ found n
+    → Gains who (foundNames ws (seek op who p t result) n) ws (call ws (seek op who p t result) .space)
+
+-- C3: a carried key is gained without its co-key, unless that was held before or is carried too
+abbrev pub CarriedKeyAlone : Type 0
+CarriedKeyAlone =
+    (ws : List ℕ) (op : Op) (who : ℕ) (p : Pair ℤ) (t result : List ℕ) (n : ℕ) (k : ℤ)
+    → call ws (seek op who p t result) .answer ≡ found n
+    → In (key (stored k)) (foundNames ws (seek op who p t result) n)
+    → holds (decode ws) who (key (stored (coKey k))) ≡ false
+    → ¬ (In (key (stored (coKey k))) (foundNames ws (seek op who p t result) n))
+    → (holds (decode (call ws (seek op who p t result) .space)) who (key (stored k)) ≡ true)
+    × (holds (decode (call ws (seek op who p t result) .space)) who (key (stored (coKey k))) ≡ false)
+
+-- C2: a put changes nobody's holdings, whatever it answers
+abbrev pub PutGivesNothing : Type 0
+PutGivesNothing =
+    (ws : List ℕ) (who : ℕ) (r t : Pair ℤ) (fs : List ℕ) (p : ℕ) (n : Name)
+    → holds (decode (call ws (put who r t fs) .space)) p n ≡ holds (decode ws) p n
