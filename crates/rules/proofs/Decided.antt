@@ -1,18 +1,19 @@
 -- A call on words by the first test of its table that applies: the law that the claims go by.
 use mathlib.Core.Path.{_≡_, refl, ap, ap₂, _∙_}
 use mathlib.Core.Logic.{_⊎_, inl, inr}
-use mathlib.Core.Bool.{Bool, true, false}
+use mathlib.Core.Bool.{Bool, true, false, false≢true}
 use mathlib.Core.Option.{Option, none, some}
 use mathlib.Core.List.{List, [], _∷_, _++_}
-use Prim.Native.Nat.{ℕ}
+use Prim.Native.Nat.{ℕ, _<_}
 use native.Mathlib.Omega.{arith}
 use Rattle.rules.specs.Lists.{All}
 use Rattle.rules.specs.State.{State}
-use Rattle.rules.specs.Calls.{Call, refused, Table, firstThatApplies, table, serve, decided, step}
+use Rattle.rules.specs.Calls.{Call, put, seek, partyOf, refused, Table, firstThatApplies, table, serve, decided, step}
 use Rattle.rules.specs.Words.{decode, sound, asked, resultOf, Exit, exit, exitOf, call, refusals}
+use Rattle.rules.specs.Group.{unrefused}
 use Rattle.rules.specs.Claims.{Passes, FirstApplies}
 use Rattle.rules.proofs.ListLaws.{bool, not-false, passed}
-use Rattle.rules.proofs.Kept.{wf-serve}
+use Rattle.rules.proofs.Kept.{party-ok, wf-serve}
 use Rattle.rules.proofs.Back.{wf-decode, encode-decode}
 use Rattle.rules.proofs.WordRuns.{back}
 
@@ -48,6 +49,18 @@ module _ (ws : List ℕ) (c : Call (List ℕ)) (e : Passes ws c) where
   passes-left =
       let s : State = serve (decode ws) (asked c) .state in
       rw passes-call (back s (wf-serve (decode ws) (asked c) (wf-decode ws passes-sound) passes-table))
+
+-- R2: a call that is not refused names a party from 0 to 7
+pub unrefused-party : (ws : List ℕ) (c : Call (List ℕ)) → unrefused (call ws c .answer) ≡ true → partyOf c < 8
+unrefused-party ws c u = go (firstThatApplies (refusals ws c)) refl
+  where
+    party : (c : Call (List ℕ)) → partyOf (asked c) < 8 → partyOf c < 8
+    party (put who r t fs) l = l
+    party (seek op who p t result) l = l
+
+    go : (o : Option ℕ) → firstThatApplies (refusals ws c) ≡ o → partyOf c < 8
+    go (some n) e = absurd (false≢true (rw (call-by ws c, e) at u))
+    go none e = party c (party-ok (decode ws) (asked c) (passes-table ws c e))
 
 -- what holds of the state before a call, and of the one that it is served with, holds of the state that it leaves
 pub call-leaves : (P : State → Type 0) (ws : List ℕ) (c : Call (List ℕ)) → P (decode ws)

@@ -13,8 +13,8 @@ pub mod Grasp
 pub mod Alike
 pub mod Isolation
 pub mod WordRuns
-pub mod Lift
 pub mod Decided
+pub mod Lift
 pub mod Demand1
 pub mod Demand2
 pub mod Holdings

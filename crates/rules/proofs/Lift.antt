@@ -1,21 +1,26 @@
 -- Isolation on words: runs from an opening's words follow the runs on the states that they stand for.
 use mathlib.Core.Path.{_≡_, refl, ap}
+use mathlib.Core.Bool.{true, false}
 use mathlib.Core.Option.{Option, none, some}
-use mathlib.Core.List.{List, [], _∷_, map}
+use mathlib.Core.List.{List, [], _∷_, _++_, map}
 use Prim.Native.Nat.{ℕ, zero, suc}
+use borrow.Author.Tests.{lt-ltb}
+use lib.Dec.{ltb}
 use lib.ListN.{length, take, drop}
 use lib.Seq.{take-append-seam}
 use Rattle.rules.specs.Lists.{keep, first}
 use Rattle.rules.specs.Names.{Name}
 use Rattle.rules.specs.Matching.{storedPair, Entry, reading, taking, matches}
 use Rattle.rules.specs.State.{State}
-use Rattle.rules.specs.Calls.{Call, put, seek, Outcome, remaining, finding, serve, step, opened}
-use Rattle.rules.specs.Words.{encode, decode, asked, resultOf, exitOf, opening}
-use Rattle.rules.specs.Runs.{reply, replies}
-use Rattle.rules.specs.Group.{Group, byGroup, CallInGrasp, OutOfGrasp, NamesAt, SameHoldings, Isolated, Isolation}
+use Rattle.rules.specs.Calls.{Call, put, seek, partyOf, Outcome, remaining, finding, serve, step, opened}
+use Rattle.rules.specs.Words.{encode, decode, asked, resultOf, exitOf, call, opening}
+use Rattle.rules.specs.Runs.{run, reply, replies}
+use Rattle.rules.specs.Group.{Group, member, byGroup, CallInGrasp, unrefused, OutOfGrasp, NamesAt, SameHoldings, Isolated, Isolation, others, Run, startOf, Withheld, Secrecy}
+use Rattle.rules.proofs.ListLaws.{not-false}
 use Rattle.rules.proofs.Rows.{WF}
 use Rattle.rules.proofs.Kept.{wf-step}
 use Rattle.rules.proofs.WordRuns.{back, call-encode, end-lift, Opened, open-done}
+use Rattle.rules.proofs.Decided.{unrefused-party}
 use Rattle.rules.proofs.StateRuns.{stateReply, stateReplies, StateOutOfGrasp, StateIsolated, step-cases}
 use Rattle.rules.proofs.Isolation.{state-isolation}
 
@@ -112,3 +117,34 @@ isolation g old₁ old₂ roster₁ roster₂ d₁ d₂ = rw (o₁ .words, o₂ 
         (state-isolation g roster₁ roster₂ (o₁ .sixteen) (o₂ .sixteen) (rw (b₁, b₂) at same) (map asked cs₁) (map asked cs₂) e
         (rw b₁ at (grasp-lift g (NamesAt g (encode s₁)) cs₁ s₁ (o₁ .wf) q₁))
         (rw b₂ at (grasp-lift g (NamesAt g (encode s₂)) cs₂ s₂ (o₂ .wf) q₂)))
+
+-- ---- secrecy: isolation of the others
+
+-- what holds of each call of a run, where it stands
+out-of-grasp : (g : Group) (N : Name → Type 0) (cs : List (Call (List ℕ))) (ws : List ℕ)
+    → ((before after : List (Call (List ℕ))) (c : Call (List ℕ)) → cs ≡ before ++ (c ∷ after)
+    → byGroup g c ≡ false → unrefused (call (run ws before) c .answer) ≡ true → ¬ (CallInGrasp N c))
+    → OutOfGrasp g N ws cs
+out-of-grasp g N [] ws h = tt
+out-of-grasp g N (c ∷ cs) ws h =
+    (h [] cs c refl, out-of-grasp g N cs (call ws c .space) (λ before after d e. h (c ∷ before) after d (ap (λ l. c ∷ l) e)))
+
+-- a call that is not refused has a party from 0 to 7, so it is the group's if it is not the others'
+elsewhere : (g : Group) (ws : List ℕ) (c : Call (List ℕ)) → unrefused (call ws c .answer) ≡ true → byGroup (others g) c ≡ false → byGroup g c ≡ true
+unfolding byGroup member
+elsewhere g ws c u h =
+    let l : ltb (partyOf c) 8 ≡ true = lt-ltb (partyOf c) 8 (unrefused-party ws c u) in
+    rw l (not-false (g (partyOf c)) (rw l at h))
+
+pub secrecy : Secrecy
+secrecy g r₁ r₂ same e q₁ q₂ =
+    record { sameReplies = i .sameReplies; sameEntries = i .sameEntries; sameHoldings = i .sameHoldings }
+  where
+    premise : (r : Run) → Withheld g r → OutOfGrasp (others g) (NamesAt (others g) (startOf r)) (startOf r) (r .calls)
+    premise r q =
+        out-of-grasp (others g) (NamesAt (others g) (startOf r)) (r .calls) (startOf r)
+        (λ before after c e h u. q before after c e (elsewhere g (run (startOf r) before) c u h) u)
+
+    i : Isolated (others g) (startOf r₁) (startOf r₂) (r₁ .calls) (r₂ .calls)
+    i = isolation (others g) (r₁ .old) (r₂ .old) (r₁ .roster) (r₂ .roster) (r₁ .opens) (r₂ .opens) same (r₁ .calls) (r₂ .calls) e
+        (premise r₁ q₁) (premise r₂ q₂)

@@ -1,8 +1,8 @@
--- The watched group, and the claim of isolation (noninterference) about every two runs.
+-- The watched group, and the claims of isolation (noninterference) and secrecy about every two runs.
 use mathlib.Core.Path.{_≡_}
 use mathlib.Core.Logic.{_⊎_}
-use mathlib.Core.Bool.{Bool, true, false, _&&_}
-use mathlib.Core.List.{List, [], _∷_, map}
+use mathlib.Core.Bool.{Bool, true, false, not, _&&_}
+use mathlib.Core.List.{List, [], _∷_, _++_, map}
 use Prim.Native.Nat.{ℕ}
 use lib.Dec.{ltb}
 use lib.ListN.{getD, take}
@@ -95,3 +95,48 @@ Isolation =
     → OutOfGrasp g (NamesAt g (opening old₁ roster₁ .space)) (opening old₁ roster₁ .space) cs₁
     → OutOfGrasp g (NamesAt g (opening old₂ roster₂ .space)) (opening old₂ roster₂ .space) cs₂
     → Isolated g (opening old₁ roster₁ .space) (opening old₂ roster₂ .space) cs₁ cs₂
+
+-- ---- secrecy: what a group does out of the others' grasp, the others can't tell
+
+-- G3: the parties 0 to 7 that are not in the group
+abbrev pub others : Group → Group
+others g who = not (g who)
+
+-- G1: a run: an opening answered "done", over any old contents, and the calls that follow it
+pub record Run : Type 0 where
+  pub old : List ℕ
+  pub roster : List ℕ
+  pub opens : opening old roster .answer ≡ done
+  pub calls : List (Call (List ℕ))
+
+-- the words at the beginning of a run, and at its end
+abbrev pub startOf : Run → List ℕ
+startOf r = opening (r .old) (r .roster) .space
+
+abbrev pub endOf : Run → List ℕ
+endOf r = run (startOf r) (r .calls)
+
+-- G7, the other way round: whatever put or take a member makes in the run and is not refused, is out of the others' grasp
+abbrev pub Withheld : Group → Run → Type 0
+Withheld g r =
+    (before after : List (Call (List ℕ))) (c : Call (List ℕ)) → r .calls ≡ before ++ (c ∷ after)
+    → byGroup g c ≡ true → unrefused (call (run (startOf r) before) c .answer) ≡ true → ¬ (CallInGrasp (NamesAt (others g) (startOf r)) c)
+
+-- G2: the others' calls, in order
+abbrev pub othersCalls : Group → Run → List (Call ℕ)
+othersCalls g r = keep (byGroup (others g)) (map asked (r .calls))
+
+-- G8: the others can't tell the runs apart: by their answers and fields, their live entries, or what they hold
+pub record Indistinguishable (g : Group) (r₁ r₂ : Run) : Type 0 where
+  pub sameReplies : replies (byGroup (others g)) (startOf r₁) (r₁ .calls) ≡ replies (byGroup (others g)) (startOf r₂) (r₂ .calls)
+  pub sameEntries : groupEntries (others g) (decode (endOf r₁)) ≡ groupEntries (others g) (decode (endOf r₂))
+  pub sameHoldings : SameHoldings (others g) (decode (endOf r₁)) (decode (endOf r₂))
+
+-- G1 to G8: what the others get doesn't depend on the group's calls: two runs may differ in them, and in what members hold, as
+-- they like, if in both the group withholds its puts and takes. Nor does it depend on calls that name a party above 7: these
+-- belong to neither side, and all of them are refused
+abbrev pub Secrecy : Type 0
+Secrecy =
+    (g : Group) (r₁ r₂ : Run)
+    → SameHoldings (others g) (decode (startOf r₁)) (decode (startOf r₂)) → othersCalls g r₁ ≡ othersCalls g r₂
+    → Withheld g r₁ → Withheld g r₂ → Indistinguishable g r₁ r₂
