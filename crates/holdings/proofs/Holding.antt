@@ -1,24 +1,24 @@
 -- The names of the fields, gained one field after another, as edits of a sound space's words.
 use Prim.Native.Nat.{ℕ, zero, suc, _+_, _<_}
-use mathlib.Core.Path.{_≡_, refl, sym, ap, _∙_, subst}
+use mathlib.Core.Path.{_≡_, refl, sym, ap, _∙_}
 use mathlib.Core.Bool.{true}
 use mathlib.Core.List.{List, [], _∷_, _++_, append-assoc, append-nil}
 use native.Mathlib.Nat.{le-of-suc-le-suc, not-suc-le-zero}
 use native.Mathlib.Numerals.{add-one}
 use lib.ListN.{length, take, getD, set}
-use Rattle.rules.specs.Lists.{All}
-use Rattle.rules.specs.Names.{Name, partition, key, withBit}
+use Rattle.rules.specs.Names.{Name, partition, key, NameInRange, withBit}
 use Rattle.rules.specs.Fields.{Field, name, field, nameIn, namesIn}
 use Rattle.rules.specs.State.{State, give, giveAll}
 use Rattle.rules.specs.Words.{encode, decode, sound}
+use Rattle.rules.proofs.FieldLaws.{name-words}
 use Rattle.rules.proofs.Rows.{WF, decode-encode, sound-encode}
-use Rattle.rules.proofs.Kept.{NameOk, namesIn-ok, wf-giveAll, few-rows}
+use Rattle.rules.proofs.Kept.{namesIn-ok, wf-giveAll, few-rows}
 use Rattle.rules.proofs.Back.{wf-decode, encode-decode}
 use Rattle.rules.proofs.Edits.{give-partition-edit, give-key-edit}
 
 -- the name in a field word is in range
-pub name-ok : (w : ℕ) (n : Name) → field w ≡ name n → NameOk n
-name-ok w n e = subst (λ (f : Field). All NameOk (nameIn f ++ [])) e (namesIn-ok (w ∷ [])) .0
+pub name-ok : (w : ℕ) (n : Name) → field w ≡ name n → NameInRange n
+name-ok w n e = name-words w n .0 e .1
 
 giveAll-append : (who : ℕ) (ns ms : List Name) (s : State) → giveAll who (ns ++ ms) s ≡ giveAll who ms (giveAll who ns s)
 giveAll-append who [] ms s = refl

@@ -10,4 +10,4 @@ use Rattle.rules.specs.Cases.{TwelveCases}
 
 pub twelve-cases : TwelveCases
 unfolding heldIn field putField templateField fieldAgrees matches holds give live putTable seekTable step opened zeros encode decode rowOk sound call opening
-twelve-cases = (refl, (refl, (refl, (refl, (refl, (refl, (refl, (refl, (refl, (refl, (refl, (refl, tt))))))))))))
+twelve-cases = (refl, (refl, (refl, ((refl, refl), ((refl, refl), (refl, (refl, (refl, (refl, (refl, (refl, (refl, tt))))))))))))

@@ -1,14 +1,17 @@
 -- Field words: the wildcard is one word, and what a field of a known kind carries.
-use Prim.Native.Nat.{ℕ, _+_, _*_, _/_, _%_}
-use mathlib.Core.Path.{_≡_, refl, sym, ap, _∙_}
+use Prim.Native.Nat.{ℕ, _+_, _*_, _/_, _%_, _<_}
+use mathlib.Core.Path.{_≡_, refl, sym, ap, ap₂, _∙_}
 use mathlib.Core.Logic.{_⊎_, inl, inr}
 use mathlib.Core.Bool.{Bool, true, false, _&&_, cond, and-true}
 use native.Mathlib.Nat.{div-add-mod'}
-use borrow.Author.Tests.{eqb-true, eqb-false}
+use native.Mathlib.Omega.{arith}
+use borrow.Author.Tests.{ltb-true, lt-ltb, eqb-true, eqb-false}
+use lib.Arith.{digits-div, digits-mod}
 use lib.Dec.{eqb, ltb}
 use Rattle.rules.specs.Lists.{all}
-use Rattle.rules.specs.Names.{Name, partition, key, heldIn}
-use Rattle.rules.specs.Fields.{Field, name, wildcard, bad, fieldOf, field, isWildcard, nameIn}
+use Rattle.rules.specs.Names.{Name, partition, key, NameInRange, heldIn}
+use Rattle.rules.specs.Fields.{Field, message, name, wildcard, bad, fieldOf, field, nameWord, isWildcard, nameIn}
+use Rattle.rules.specs.Claims.{NameWords}
 use Rattle.rules.proofs.ListLaws.{bool}
 
 -- kind 3 and value 0 alone are the wildcard
@@ -53,3 +56,47 @@ wildcard-word w = wildcard-of (w / 4294967296) (w % 4294967296) ∙ go (bool (eq
 -- a word that carries one name asks for that name
 pub held-name : (partitions keys : ℕ) (f : Field) (n : Name) → f ≡ name n → heldIn partitions keys n ≡ all (heldIn partitions keys) (nameIn f)
 held-name partitions keys f n e = rw e (sym (and-true (heldIn partitions keys n)))
+
+-- ---- the word of a name
+
+module _ (k v : ℕ) (n : Name) where
+  chosen : (b : Bool) (f : Field) → cond b f bad ≡ name n → (b ≡ true) × (f ≡ name n)
+  chosen true f e = (refl, e)
+  chosen false f e = let z : _≡_ {A = ℕ} 0 1 = cc in absurd (omega arith)
+
+  named : fieldOf k v ≡ name n → (k * 4294967296 + v ≡ nameWord n) × NameInRange n
+  named = by-kind (bool (eqb k 0)) (bool (eqb k 1)) (bool (eqb k 2)) (bool (eqb k 3))
+    where
+      by-kind : (eqb k 0 ≡ true) ⊎ (eqb k 0 ≡ false) → (eqb k 1 ≡ true) ⊎ (eqb k 1 ≡ false) → (eqb k 2 ≡ true) ⊎ (eqb k 2 ≡ false)
+          → (eqb k 3 ≡ true) ⊎ (eqb k 3 ≡ false) → fieldOf k v ≡ name n → (k * 4294967296 + v ≡ nameWord n) × NameInRange n
+      by-kind (inl a) b c d e = let f : message v ≡ name n = rw a at e in let z : _≡_ {A = ℕ} 0 1 = cc in absurd (omega arith)
+      by-kind (inr a) (inl b) c d e =
+          let q = chosen (ltb v 64) (name (partition v)) (rw (a, b) at e) in
+          let i : n ≡ partition v = cc (q .1) in
+          rw (i, eqb-true k 1 b) (refl, omega (arith, ltb-true v 64 (q .0)))
+      by-kind (inr a) (inr b) (inl c) d e =
+          let q = chosen (ltb v 63) (name (key v)) (rw (a, b, c) at e) in
+          let i : n ≡ key v = cc (q .1) in
+          rw (i, eqb-true k 2 c) (refl, omega (arith, ltb-true v 63 (q .0)))
+      by-kind (inr a) (inr b) (inr c) (inl d) e =
+          let q = chosen (eqb v 0) wildcard (rw (a, b, c, d) at e) in
+          let z : _≡_ {A = ℕ} 0 1 = cc (q .1) in absurd (omega arith)
+      by-kind (inr a) (inr b) (inr c) (inr d) e =
+          let f : bad ≡ name n = rw (a, b, c, d) at e in let z : _≡_ {A = ℕ} 0 1 = cc in absurd (omega arith)
+
+word-at : (k v : ℕ) → v < 4294967296 → field (k * 4294967296 + v) ≡ fieldOf k v
+unfolding field
+word-at k v h = ap₂ fieldOf (digits-div k h) (digits-mod k h)
+
+word-named : (n : Name) → NameInRange n → field (nameWord n) ≡ name n
+word-named (partition c) h = word-at 1 c (omega arith) ∙ rw (lt-ltb c 64 (omega arith)) refl
+word-named (key k) h = word-at 2 k (omega arith) ∙ rw (lt-ltb k 63 (omega arith)) refl
+
+pub name-words : NameWords
+unfolding field
+name-words w n = (there, λ h. rw (h .0) (word-named n (h .1)))
+  where
+    there : field w ≡ name n → (w ≡ nameWord n) × NameInRange n
+    there e =
+        let q = named (w / 4294967296) (w % 4294967296) n e in
+        (sym (div-add-mod' w 4294967296) ∙ q .0, q .1)

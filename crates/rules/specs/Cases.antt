@@ -2,11 +2,11 @@
 use mathlib.Core.Path.{_≡_}
 use mathlib.Core.Bool.{Bool, true, false}
 use mathlib.Core.List.{List, [], _∷_, _++_}
-use Prim.Native.Nat.{ℕ, zero, suc, _+_, _*_, _^_}
+use Prim.Native.Nat.{ℕ, zero, suc, _*_, _^_}
 use lib.IntN.{ℤ, pos, negsuc}
 use Rattle.rules.specs.Lists.{All}
 use Rattle.rules.specs.Names.{Name, partition, key, coKey, stored}
-use Rattle.rules.specs.Fields.{Field, name, field}
+use Rattle.rules.specs.Fields.{name, field, nameWord}
 use Rattle.rules.specs.Matching.{Pair, pair, Op, reading, taking}
 use Rattle.rules.specs.State.{holds}
 use Rattle.rules.specs.Calls.{Call, put, seek, done, found, nothing, refused}
@@ -18,10 +18,10 @@ abbrev pub m : ℕ → ℕ
 m v = v
 
 abbrev pub p : ℕ → ℕ
-p c = 1 * 4294967296 + c
+p c = nameWord (partition c)
 
 abbrev pub k : ℤ → ℕ
-k v = 2 * 4294967296 + stored v
+k v = nameWord (key (stored v))
 
 abbrev pub any : ℕ
 any = 3 * 4294967296
@@ -42,14 +42,14 @@ pub data Case : Type 0 where
   held : List (Call (List ℕ)) → ℕ → Name → Bool → Case
   -- the key's co-key
   coKeys : ℤ → ℤ → Case
-  -- the field's word
-  worded : Field → ℕ → Case
+  -- the name's word
+  worded : Name → ℕ → Case
 
 abbrev pub Follows : Case → Type 0
 Follows (answered cs rs) = replies (λ c. true) start cs ≡ rs
 Follows (held cs who n b) = holds (decode (run start cs)) who n ≡ b
 Follows (coKeys a b) = coKey a ≡ b
-Follows (worded f w) = field w ≡ f
+Follows (worded n w) = (nameWord n ≡ w) × (field w ≡ name n)
 
 -- the pair of partition 5 with key 4, and with key -4
 abbrev pub own : Pair ℤ
@@ -91,9 +91,9 @@ twelve =
     ∷ coKeys (pos 31) (negsuc 30)
     ∷ coKeys (pos 0) (pos 0)
     -- (g)
-    ∷ worded (name (partition 5)) 4294967301
+    ∷ worded (partition 5) 4294967301
     -- (h)
-    ∷ worded (name (key (stored (pos 4)))) 8589934627
+    ∷ worded (key (stored (pos 4))) 8589934627
     -- (i)
     ∷ answered
     (puts 0 own (m 1 ∷ []) ∷ puts 0 own (m 2 ∷ []) ∷ asks taking 1 other (any ∷ []) ∷ [])

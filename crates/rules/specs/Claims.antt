@@ -8,8 +8,8 @@ use Prim.Native.Nat.{ℕ, suc, _+_, _≤_, _<_}
 use lib.IntN.{ℤ}
 use lib.ListN.{length, getD, take, drop}
 use Rattle.rules.specs.Lists.{all, keep, All, In}
-use Rattle.rules.specs.Names.{Name, partition, key, keyInRange, coKey, stored, coStored, defaultPartition, defaultKey, heldIn}
-use Rattle.rules.specs.Fields.{putField, namesIn, fieldAgrees}
+use Rattle.rules.specs.Names.{Name, partition, key, NameInRange, keyInRange, coKey, stored, coStored, defaultPartition, defaultKey, heldIn}
+use Rattle.rules.specs.Fields.{name, field, nameWord, putField, namesIn, fieldAgrees}
 use Rattle.rules.specs.Matching.{Pair, storedPair, Entry, Op, reading, taking, pairFor, matches}
 use Rattle.rules.specs.State.{holds, live, wrote}
 use Rattle.rules.specs.Calls.{Call, put, seek, done, found, nothing, refused, Table, firstThatApplies, badCount, badPair, putNames}
@@ -63,6 +63,10 @@ OpeningIsSound =
 -- the call is turned away by no test
 abbrev pub Passes : List ℕ → Call (List ℕ) → Type 0
 Passes ws c = firstThatApplies (refusals ws c) ≡ none
+
+-- F1, F2: a field word is that of a name exactly if it is the name's kind and value and the name is in range
+abbrev pub NameWords : Type 0
+NameWords = (w : ℕ) (n : Name) → Iff (field w ≡ name n) ((w ≡ nameWord n) × NameInRange n)
 
 -- M1 to M4, clause by clause
 pub record Matches (op : Op) (p : Pair ℕ) (t : List ℕ) (e : Entry) : Type 0 where

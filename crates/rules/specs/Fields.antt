@@ -1,7 +1,7 @@
 -- Field words: what kind of thing a word is, and which names it carries.
 use mathlib.Core.Bool.{Bool, true, false, _||_, cond}
 use mathlib.Core.List.{List, [], _∷_, _++_}
-use Prim.Native.Nat.{ℕ, _/_, _%_}
+use Prim.Native.Nat.{ℕ, _+_, _*_, _/_, _%_}
 use lib.Dec.{eqb, ltb}
 use Rattle.rules.specs.Names.{Name, partition, key}
 
@@ -24,6 +24,11 @@ fieldOf kind value =
 -- F1: a field word is kind × 2^32 + value
 unfoldable pub field : ℕ → Field
 field w = fieldOf (w / 4294967296) (w % 4294967296)
+
+-- F1, F2: the word of a field that carries the name
+abbrev pub nameWord : Name → ℕ
+nameWord (partition c) = 1 * 4294967296 + c
+nameWord (key k) = 2 * 4294967296 + k
 
 -- F3: a message, a partition or a key: what a put may carry
 abbrev pub isData : Field → Bool

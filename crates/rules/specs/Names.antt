@@ -1,6 +1,6 @@
 -- Names: partitions, keys and co-keys, and the words whose bits hold them.
 use mathlib.Core.Bool.{Bool, _&&_}
-use Prim.Native.Nat.{ℕ, _-_, _/_, _%_, _^_}
+use Prim.Native.Nat.{ℕ, _-_, _/_, _%_, _^_, _≤_}
 use lib.Bits.{bitOr}
 use lib.Dec.{eqb}
 use lib.IntN.{ℤ, pos, negsuc, natAbs, negℤ, _+ℤ_}
@@ -26,6 +26,11 @@ coStored s = 62 - s
 pub data Name : Type 0 where
   partition : ℕ → Name
   key : ℕ → Name
+
+-- N2, N5: a partition is at most 63, a stored key at most 62
+abbrev pub NameInRange : Name → Type 0
+NameInRange (partition c) = c ≤ 63
+NameInRange (key k) = k ≤ 62
 
 -- N2: partition 0, the default `#`
 abbrev pub defaultPartition : ℕ
