@@ -159,13 +159,45 @@ def refuse_mixed_slots(lines):
         raise Refused(f"in {function} byte {offset} of {base} holds now a pointer, now a number")
 
 
+# What the header may have. A macro's name begins with SPACE_, so it stands for no type and no name of a function or parameter.
+QUOTED = re.compile(r"""/\*.*?\*/|//[^\n]*|"(?:\\.|[^"\\\n])*"|'(?:\\.|[^'\\\n])*'""", re.S)
+DIRECTIVE = re.compile(r"^#(?:ifndef SPACE_H|define SPACE_\w+(?: .*)?|include <stdint\.h>|endif)$", re.M)
+CALLS = re.compile(r'^#ifdef __cplusplus\nextern "C" \{\n#endif\n(.*?)^#ifdef __cplusplus\n\}\n#endif\n', re.M | re.S)
+CALL = r"(\w+) (space_\w+)\(([\w *,]*)\); "
+HELPER = r"static inline (?:const )?\w+ \*?space_\w+\([\w *,]*\) BODY "
+PARAMETER = re.compile(r"((?:const )?\w+(?: \*| ))[a-z]\w*")
+
+
+def plain(text):
+    """C without comments, and with nothing in its texts but for the "C" of extern "C"."""
+    return QUOTED.sub(lambda found: " " if found[0][0] == "/" else found[0] if found[0] == '"C"' else '""', text)
+
+
+def outline(text):
+    """C in one line, with BODY for whatever stands in braces."""
+    inner = 1
+    while inner:
+        text, inner = re.subn(r"\{[^{}]*\}", " BODY ", text)
+    return "".join(word + " " for word in text.split())
+
+
 def declared(header):
-    """name -> (result, [parameter types]) of each function that the header declares."""
-    bare = re.sub(r"/\*.*?\*/", "", header, flags=re.S)
-    bare = "\n".join(line for line in bare.split("\n") if not line.startswith("#"))
+    """name -> (result, [parameter types]) of each function that the header leaves to the library. They are declared in one part,
+    which is extern "C" for C++. Beside it are constants and static inline functions; anything else is refused."""
+    parts = CALLS.split(re.sub(r" +$", "", plain(header), flags=re.M))
+    if len(parts) != 3 or "\\\n" in header:
+        raise Refused('the header should have one part that is extern "C" for C++, and no line that goes on in the next')
+    helpers, calls = outline(DIRECTIVE.sub("", parts[0] + parts[2])), outline(parts[1])
+    for text, form in ((helpers, HELPER), (calls, CALL)):
+        rest = re.sub(f"^(?:{form})*", "", text)
+        if rest:
+            raise Refused(f"the header has what is no constant, no static inline function and no call in its place: {rest[:60]}")
     found = {}
-    for gives, name, takes in re.findall(r"(\w+)\s+(\w+)\(([^()]*)\)\s*;", bare):
-        found[name] = gives, [re.sub(r"\s*(\*?)\s*\w+$", r" \1", item.strip()).strip() for item in takes.split(",")]
+    for gives, name, takes in re.findall(CALL, calls):
+        kinds = [PARAMETER.fullmatch(item.strip()) for item in takes.split(",")]
+        if name in found or None in kinds:
+            raise Refused(f"the header declares {name} twice, or with a parameter of no known form")
+        found[name] = gives, [kind[1].strip() for kind in kinds]
     return found
 
 

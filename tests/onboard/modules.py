@@ -30,8 +30,29 @@ DOCTORED = [
     ("an unsigned key in the header", "header", "int32_t read_key", "uint32_t read_key", "the header declares"),
     ("a roster that may be written", "header", "const uint64_t *roster", "uint64_t *roster", "the header declares"),
     ("a call that the header forgets", "header", "uint32_t space_take(", "uint32_t space_takes(", "the header declares"),
+    ("a call that the header declares twice", "header", "uint32_t space_put(", "uint32_t space_open(uint64_t *space);\nuint32_t space_put(", "twice"),
+    ("a call that is not extern C", "header", "/* The kinds of", "uint32_t space_close(uint64_t *space);\n/* The kinds of", "no call in its place"),
+    ("a header without extern C", "header", 'extern "C" {', "", "extern"),
+    ("a helper that the archive would have to have", "header", "static inline uint64_t space_message", "uint64_t space_message", "no call in its place"),
+    ("a variable in the header", "header", "/* The kinds of", "static int space_count = 0;\n/* The kinds of", "no call in its place"),
+    ("a helper among the calls", "header", "uint32_t space_put(", "static inline int space_one(void) { return 1; }\nuint32_t space_put(", "no call in its place"),
+    ("a call under a condition", "header", "uint32_t space_put(", "#ifdef __arm__\nuint32_t space_put(", "no call in its place"),
+    ("helpers under a condition", "header", "/* The kinds of", "#ifdef __arm__\n#endif\n/* The kinds of", "no call in its place"),
+    ("a macro for a type", "header", "#define SPACE_SHARE", "#define uint64_t uint32_t\n#define SPACE_SHARE", "no call in its place"),
+    ("a macro for a parameter", "header", "uint64_t *space, uint64_t space_len, uint32_t party", "uint64_t *space, uint64_t SPACE_X, uint32_t party", "no known form"),
+    ("a comment that goes on", "header", "/* The kinds of", "// \\\n/* The kinds of", "goes on"),
     ("a call that the source doesn't export", "source", '#[no_mangle]\npub extern "C" fn space_put', 'pub extern "C" fn space_put', "the header declares"),
 ]
+# looks like declarations, and has none
+ALIKE = r"""
+// uint32_t space_put(int x);
+/* uint32_t space_put(int x); */
+static inline const char *space_alike(int x)
+{
+    if (x == '"') { return "\"} uint32_t space_put(int x); /*"; }
+    return "*/";
+}
+"""
 
 
 def run(core, files):
@@ -58,6 +79,9 @@ for core in ("cortex-m4", "cortex-m0plus"):
     same_length = TRUE["module"].count("\n") == ran.stdout.count("\n")
     names = [line.split()[0] + " " + line.split()[1] for line in changed]
     check(f"the module for {core} differs in three lines", same_length and names == ["target datalayout", "target triple", "attributes #0"], ran.stderr or str(changed))
+header = TRUE["header"].replace("/* The kinds of", ALIKE + "/* The kinds of", 1)
+ran = run("cortex-m4", {**TRUE, "header": header})
+check("what looks like a declaration in a comment or a text is none", ran.returncode == 0 and ALIKE in header, ran.stderr)
 for what, name, old, new, words in DOCTORED:
     if old not in TRUE[name]:
         check(what, False, f"the {name} doesn't have: {old!r}")

@@ -1,0 +1,223 @@
+/* A logger in small: a digitiser, the pickers of two groups and the telemetry share one space and don't trust one another.
+   It needs space.h and stdio alone, and prints the same on the desk and on a board.
+
+   Whoever puts an entry chooses a partition and a key under which it is read, and a pair under which it is taken. To find it one
+   names the partition and the co-key, and nobody can name what it doesn't hold. So all depends on who holds what:
+
+     partition 1    triggers            the digitiser holds the keys 7 and -7, the pickers hold -7
+     partition 2    settings            the telemetry holds 9 and -9, all others hold -9
+     partition 10   picks of group A    picker A holds 3, -3 and 4, the telemetry holds -4
+     partition 11   picks of group B    picker B holds 5, -5 and 6, the telemetry holds -6
+     partition 12   notes of group A    picker A holds 13 and -13, and at first nobody else does
+
+   A program may join any partition that it holds with any key that it holds, so no key here serves two purposes. */
+#include "space.h"
+#include <stdio.h>
+
+struct pair {
+    uint32_t partition;
+    int32_t key;
+};
+
+/* Here every entry has three fields, and the first says what it is. */
+enum { FIELDS = 3 };
+enum { TRIGGER = 1, PICK, GAIN, NOTE, NAMES };
+
+/* What a program asks of the host. There is no party in it: the host knows who is asking. */
+struct request {
+    enum { PUT, READ, TAKE } call;
+    struct pair read, take; /* a put has both, a read and a take the one of its name */
+    uint64_t fields[FIELDS], found[FIELDS];
+};
+
+/* ---- The host ---- */
+
+/* The space is the host's: a program that could write its words would be bound by nothing. */
+static uint64_t space[SPACE_WORDS];
+
+enum { DIGITISER, PICKER_A, PICKER_B, TELEMETRY }; /* the parties */
+
+static uint32_t serve(uint32_t party, struct request *r)
+{
+    switch (r->call) {
+    case PUT:
+        return space_put(space, SPACE_WORDS, party, r->read.partition, r->read.key, r->take.partition, r->take.key, r->fields, FIELDS);
+    case READ:
+        return space_read(space, SPACE_WORDS, party, r->read.partition, r->read.key, r->fields, FIELDS, r->found, FIELDS);
+    default:
+        return space_take(space, SPACE_WORDS, party, r->take.partition, r->take.key, r->fields, FIELDS, r->found, FIELDS);
+    }
+}
+
+/* A door for each program, with the party fixed in it. A program gets its own door alone, so it can't pass for another. */
+static uint32_t digitiser_door(struct request *r) { return serve(DIGITISER, r); }
+static uint32_t picker_a_door(struct request *r) { return serve(PICKER_A, r); }
+static uint32_t picker_b_door(struct request *r) { return serve(PICKER_B, r); }
+static uint32_t telemetry_door(struct request *r) { return serve(TELEMETRY, r); }
+
+/* The plan above. Nobody holds what isn't in it, but for partition 0 and key 0, which are everybody's. */
+static const struct gift {
+    uint32_t party, partition;
+    int32_t key;
+} plan[] = {
+    {DIGITISER, 1, 7},  {DIGITISER, 1, -7}, {PICKER_A, 1, -7},  {PICKER_B, 1, -7},
+    {TELEMETRY, 2, 9},  {TELEMETRY, 2, -9}, {DIGITISER, 2, -9}, {PICKER_A, 2, -9}, {PICKER_B, 2, -9},
+    {PICKER_A, 10, 3},  {PICKER_A, 10, -3}, {PICKER_A, 10, 4},  {TELEMETRY, 10, -4},
+    {PICKER_B, 11, 5},  {PICKER_B, 11, -5}, {PICKER_B, 11, 6},  {TELEMETRY, 11, -6},
+    {PICKER_A, 12, 13}, {PICKER_A, 12, -13},
+};
+
+/* The space is opened once, when the logger starts. */
+static uint32_t open_space(void)
+{
+    uint64_t roster[SPACE_ROSTER_WORDS] = {0};
+    for (unsigned i = 0; i < sizeof plan / sizeof plan[0]; i++) {
+        space_give_partition(roster, plan[i].party, plan[i].partition);
+        space_give_key(roster, plan[i].party, plan[i].key);
+    }
+    return space_open(space, SPACE_WORDS, roster, SPACE_ROSTER_WORDS);
+}
+
+/* ---- The programs, and how they write down what they ask ---- */
+
+static const struct program {
+    const char *name;
+    uint32_t (*door)(struct request *);
+} digitiser = {"digitiser", digitiser_door}, picker_a = {"picker A", picker_a_door}, picker_b = {"picker B", picker_b_door},
+  telemetry = {"telemetry", telemetry_door};
+
+static const struct pair triggers = {1, 7}, settings = {2, 9}, notes = {12, 13};
+static const struct pair picks_of_a = {10, 3}, picks_of_b = {11, 5}; /* for a group's own eyes */
+static const struct pair from_a = {10, 4}, from_b = {11, 6};         /* for the telemetry to take */
+
+/* The pair that finds what is put under this one. */
+static struct pair co(struct pair p) { return (struct pair){p.partition, -p.key}; }
+
+static struct request to_put(struct pair read, struct pair take, uint32_t what, uint64_t a, uint64_t b)
+{
+    return (struct request){.call = PUT, .read = read, .take = take, .fields = {space_message(what), a, b}};
+}
+
+static struct request to_read(struct pair pair, uint32_t what, uint64_t a, uint64_t b)
+{
+    return (struct request){.call = READ, .read = pair, .fields = {space_message(what), a, b}};
+}
+
+static struct request to_take(struct pair pair, uint32_t what, uint64_t a, uint64_t b)
+{
+    return (struct request){.call = TAKE, .take = pair, .fields = {space_message(what), a, b}};
+}
+
+#define ANY SPACE_WILDCARD
+enum { DONE = 0, NONE = 0, FOUND = FIELDS }; /* answers */
+static int surprises;                        /* answers that were not expected */
+
+static void show_field(uint64_t word)
+{
+    const char *kind = space_kind(word) == SPACE_KIND_PARTITION ? "partition " : space_kind(word) == SPACE_KIND_KEY ? "key " : "";
+    printf(" %s%lld", kind, (long long)space_value(word));
+}
+
+/* A program goes to its door. A line says who does what and what the answer is. */
+static struct request step(const struct program *p, const char *what, struct request r, uint32_t expected)
+{
+    uint32_t answer = p->door(&r);
+    printf("%-9s  %s: ", p->name, what);
+    if (space_refusal(answer)) printf("refused by %u. %s", (unsigned)answer, space_meaning(answer));
+    else if (answer == 0) printf(r.call == PUT ? "done" : "none");
+    else printf("found"), show_field(r.found[1]), show_field(r.found[2]);
+    printf("\n");
+    surprises += answer != expected;
+    return r;
+}
+
+/* ---- What happens ---- */
+
+/* Pickers find a trigger by -7. To put one takes 7, which no picker holds, so it can't be imitated. In the take pair the keys are
+   swapped: what is put there under -7 is taken with 7, by the digitiser alone. */
+static void a_trigger(void)
+{
+    step(&digitiser, "puts trigger 1, 4000 samples", to_put(triggers, co(triggers), TRIGGER, space_message(1), space_message(4000)), DONE);
+    /* a read finds the oldest match each time, so a picker names the trigger that it hasn't seen yet */
+    step(&picker_a, "reads trigger 1", to_read(co(triggers), TRIGGER, space_message(1), ANY), FOUND);
+    step(&picker_b, "reads trigger 1", to_read(co(triggers), TRIGGER, space_message(1), ANY), FOUND);
+    step(&picker_b, "tries to put a trigger", to_put(triggers, co(triggers), TRIGGER, space_message(2), space_message(9)), 107);
+    step(&picker_b, "tries to take trigger 1", to_take(triggers, TRIGGER, space_message(1), ANY), 107);
+    step(&picker_b, "tries it with a key that it holds", to_take(co(triggers), TRIGGER, space_message(1), ANY), NONE);
+    step(&digitiser, "takes trigger 1 down", to_take(triggers, TRIGGER, space_message(1), ANY), FOUND);
+}
+
+/* A pick is read by its own group and taken by the telemetry. A neighbour holds no key of the group, so it can neither see the
+   picks nor thin them out. */
+static void picks(void)
+{
+    step(&picker_a, "picks sample 1200 of trigger 1", to_put(picks_of_a, from_a, PICK, space_message(1), space_message(1200)), DONE);
+    step(&picker_a, "picks sample 1340 of trigger 1", to_put(picks_of_a, from_a, PICK, space_message(1), space_message(1340)), DONE);
+    step(&picker_b, "picks sample 1210 of trigger 1", to_put(picks_of_b, from_b, PICK, space_message(1), space_message(1210)), DONE);
+    step(&picker_a, "reads its group's oldest pick", to_read(co(picks_of_a), PICK, ANY, ANY), FOUND);
+    step(&picker_b, "tries to read a pick of group A", to_read(co(picks_of_a), PICK, ANY, ANY), 107);
+    step(&picker_b, "tries to take a pick of group A", to_take(co(from_a), PICK, ANY, ANY), 107);
+    step(&telemetry, "takes a pick of group A", to_take(co(from_a), PICK, ANY, ANY), FOUND);
+    step(&telemetry, "takes a pick of group A", to_take(co(from_a), PICK, ANY, ANY), FOUND);
+    step(&telemetry, "takes a pick of group A", to_take(co(from_a), PICK, ANY, ANY), NONE);
+    step(&telemetry, "takes a pick of group B", to_take(co(from_b), PICK, ANY, ANY), FOUND);
+}
+
+/* All hold -9 and read the setting; 9 is its owner's. To change it, first put the new one, then take the old one by its value.
+   Readers get the oldest, so they go over from the old one to the new one and never find none. (It takes room for one entry more.) */
+static void a_setting(void)
+{
+    step(&telemetry, "sets the gain of channel 1 to 20", to_put(settings, co(settings), GAIN, space_message(1), space_message(20)), DONE);
+    step(&picker_b, "reads the gain", to_read(co(settings), GAIN, space_message(1), ANY), FOUND);
+    step(&picker_b, "tries to set it to 99", to_put(settings, co(settings), GAIN, space_message(1), space_message(99)), 107);
+    step(&picker_b, "tries to take it away", to_take(co(settings), GAIN, space_message(1), ANY), NONE);
+    step(&telemetry, "puts the new gain, 40", to_put(settings, co(settings), GAIN, space_message(1), space_message(40)), DONE);
+    step(&digitiser, "reads the gain", to_read(co(settings), GAIN, space_message(1), ANY), FOUND);
+    step(&telemetry, "takes the old gain, 20", to_take(settings, GAIN, space_message(1), space_message(20)), FOUND);
+    step(&digitiser, "reads the gain", to_read(co(settings), GAIN, space_message(1), ANY), FOUND);
+}
+
+/* Names travel in fields. Picker A lets the telemetry read its notes: it puts their partition and co-key under a pair that the
+   telemetry alone finds. Whoever finds names holds them from then on, and nothing takes them back. */
+static void names(void)
+{
+    step(&picker_a, "notes that battery 3 has 12 volts", to_put(notes, co(notes), NOTE, space_message(3), space_message(12)), DONE);
+    step(&telemetry, "tries to read the note", to_read(co(notes), NOTE, ANY, ANY), 107);
+    step(&picker_a, "hands over the names", to_put(from_a, from_a, NAMES, space_partition(notes.partition), space_key(-notes.key)), DONE);
+    step(&picker_b, "tries to take them", to_take(co(from_a), NAMES, ANY, ANY), 107);
+    struct request got = step(&telemetry, "takes them", to_take(co(from_a), NAMES, ANY, ANY), FOUND);
+    /* two numbers would have given it no names, so it looks at the kinds */
+    surprises += space_kind(got.found[1]) != SPACE_KIND_PARTITION || space_kind(got.found[2]) != SPACE_KIND_KEY;
+    struct pair given = {(uint32_t)space_value(got.found[1]), (int32_t)space_value(got.found[2])};
+    step(&telemetry, "reads the note", to_read(given, NOTE, ANY, ANY), FOUND);
+    step(&telemetry, "tries to put a note", to_put(notes, co(notes), NOTE, space_message(3), space_message(0)), 107);
+}
+
+/* A program can have 16 live entries. Then it's refused until one of them is taken; of picks that is the telemetry's task. (A picker
+   that should be able to drop its own would hold -4 too.) What one program has used up, no other misses. */
+static void sixteen(void)
+{
+    struct request pick = to_put(picks_of_a, from_a, PICK, space_message(2), space_message(5));
+    struct request next = to_take(co(from_a), PICK, ANY, ANY);
+    int put = 0, taken = 0;
+    while (picker_a.door(&pick) == DONE) put++;
+    printf("picker A   puts picks until it is refused: %d, and the note is its 16th entry\n", put);
+    step(&picker_a, "tries once more", pick, 108);
+    step(&picker_b, "puts a pick all the same", to_put(picks_of_b, from_b, PICK, space_message(2), space_message(6)), DONE);
+    while (telemetry.door(&next) == FOUND) taken++;
+    printf("telemetry  takes picks of group A until there is none: %d\n", taken);
+    step(&picker_a, "tries once more", pick, DONE);
+    surprises += put != SPACE_SHARE - 1 || taken != put;
+}
+
+int main(void)
+{
+    uint32_t opened = open_space();
+    printf("host       opens the space: %s\n", opened == DONE ? "done" : space_meaning(opened));
+    a_trigger();
+    picks();
+    a_setting();
+    names();
+    sixteen();
+    return surprises != 0;
+}
