@@ -31,7 +31,7 @@ pub data Answer : Type 0 where
   nothing : Answer
   refused : ℕ → Answer
 
--- ---- refusals: a table is a list of tests, each with its number, and the first that applies decides
+-- ---- C7: refusals: a table is a list of tests, each with its number, and the first that applies decides
 
 abbrev pub Table : Type 0
 Table = List (Bool × ℕ)
@@ -52,7 +52,7 @@ badPair p = ltb 63 (p .partition) || not (keyInRange (p .key))
 abbrev pub pairNames : Pair ℕ → List Name
 pairNames p = partition (p .partition) ∷ key (p .key) ∷ []
 
--- R7: the names that a call needs: those of its pairs, and those in its fields
+-- C6, R7: the names that a call needs: those of its pairs, and those in its fields
 abbrev pub putNames : Pair ℤ → Pair ℤ → List ℕ → List Name
 putNames r t fs = pairNames (storedPair r) ++ (pairNames (storedPair t) ++ namesIn fs)
 
@@ -127,7 +127,7 @@ abbrev pub serve : State → Call ℕ → Outcome
 serve s (put who r t fs) = served (entryOf who r t fs) s
 serve s (seek op who p t room) = sought op who (matches op (storedPair p) t) s
 
--- R2 to R8: refused by a number and nothing changed, or served
+-- C7, R2 to R8: refused by a number and nothing changed, or served
 abbrev pub decided : Option ℕ → Outcome → State → Outcome
 decided (some n) o s = unchanged (refused n) s
 decided none o s = o

@@ -35,7 +35,7 @@ pub record GroupName (g : Group) (s : State) (n : Name) : Type 0 where
 abbrev pub Reaches : (Name → Type 0) → Pair ℕ → Type 0
 Reaches N p = N (partition (p .partition)) × N (key (coStored (p .key)))
 
--- G5: an entry in the group's "grasp": members could read it or take it
+-- G5: an entry in the group's "grasp": the names, put together, reach one of its pairs
 abbrev pub EntryInGrasp : (Name → Type 0) → Entry → Type 0
 EntryInGrasp N e = Reaches N (e .readPair) ⊎ Reaches N (e .takePair)
 

@@ -40,11 +40,11 @@ fieldsAgree [] fs = true
 fieldsAgree (t ∷ ts) [] = false
 fieldsAgree (t ∷ ts) (f ∷ fs) = fieldAgrees t f && fieldsAgree ts fs
 
--- M3: the partitions agree
+-- M3, M6: the partitions agree
 abbrev pub partitionsAgree : ℕ → ℕ → Bool
 partitionsAgree t e = eqb e t
 
--- M4: the co-key of the entry's key is the template's key
+-- M4, M6: the co-key of the entry's key is the template's key
 abbrev pub keysAgree : ℕ → ℕ → Bool
 keysAgree t e = eqb (coStored e) t
 

@@ -16,7 +16,7 @@ use Rattle.rules.specs.Calls.{Call, put, seek, Answer, done, refused, Ta
 unfoldable pub zeros : ℕ → List ℕ
 zeros n = replicate n 0
 
--- L4: the 14 words of an entry's row; unused field words are 0
+-- L4, F6: the 14 words of an entry's row; unused field words are 0
 abbrev pub rowOf : Entry → List ℕ
 rowOf e =
     e .writer ∷ e .readPair .partition ∷ e .readPair .key ∷ e .takePair .partition ∷ e .takePair .key ∷ length (e .fields)
