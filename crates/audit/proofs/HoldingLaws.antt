@@ -49,7 +49,8 @@ module _ (ws : List ℕ) (p : ℕ) (len : length ws ≡ 1809) where
   holdings-end h = rw (words-end hasPartition 1 h, words-end hasKey 9 h, words-end noSpare 9 h)
 
   -- x, y and z are the tests of party p
-  module _ {x y z whole : Bool} (h : p < 8) (partition : x ≡ bit (getD ws (1 + p) 0) 0) (key : y ≡ bit (getD ws (9 + p) 0) 31) (spare : z ≡ bit (getD ws (9 + p) 0) 63)
+  module _ {x y z whole : Bool} (h : p < 8)
+      (partition : x ≡ bit (getD ws (1 + p) 0) 0) (key : y ≡ bit (getD ws (9 + p) 0) 31) (spare : z ≡ bit (getD ws (9 + p) 0) 63)
       (inv : holdingsOk (fromParty (decode ws) p) ≡ whole) where
     next : ((x && (y && not z)) && holdingsOk (fromParty (decode ws) (p + 1))) ≡ whole
     unfolding decode
@@ -58,7 +59,9 @@ module _ (ws : List ℕ) (p : ℕ) (len : length ws ≡ 1809) where
         (sym
         (regroup
         (hasPartition (getD ws (1 + p) 0)) (hasKey (getD ws (9 + p) 0)) (noSpare (getD ws (9 + p) 0))
-        (all hasPartition (drop (p + 1) (take 8 (drop 1 ws)))) (all hasKey (drop (p + 1) (take 8 (drop 9 ws)))) (all noSpare (drop (p + 1) (take 8 (drop 9 ws)))))
+        (all hasPartition (drop (p + 1) (take 8 (drop 1 ws))))
+        (all hasKey (drop (p + 1) (take 8 (drop 9 ws))))
+        (all noSpare (drop (p + 1) (take 8 (drop 9 ws)))))
         ∙ (rw (words-next hasPartition 1 (omega arith) h, words-next hasKey 9 (omega arith) h, words-next noSpare 9 (omega arith) h) at inv))
 
     pub holdings-stop : not (x && (y && not z)) ≡ true → false ≡ whole

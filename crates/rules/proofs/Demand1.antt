@@ -7,10 +7,12 @@ use Prim.Native.Nat.{ℕ}
 use Rattle.rules.specs.Lists.{first}
 use Rattle.rules.specs.Matching.{storedPair, Entry, matches}
 use Rattle.rules.specs.State.{State}
-use Rattle.rules.specs.Calls.{Call, put, seek, Answer, done, found, nothing, refused, Table, firstThatApplies, Outcome, remaining, finding, serve, step, opened}
+use Rattle.rules.specs.Calls.{Call, put, seek, Answer, done, found, nothing, refused}
+use Rattle.rules.specs.Calls.{Table, firstThatApplies, Outcome, remaining, finding, serve, step, opened}
 use Rattle.rules.specs.Words.{encode, decode, sound, asked, resultOf, call, refusals, openRefusals, openBy, opening}
 use Rattle.rules.specs.Group.{unrefused}
-use Rattle.rules.specs.Claims.{Iff, FirstApplies, ChangesNothing, RefusalChangesNothing, NoneChangesNothing, RefusedOpeningChangesNothing, FirstRefusalDecides, FirstOpenRefusalDecides, SoundStaysSound, OpeningIsSound}
+use Rattle.rules.specs.Claims.{Iff, FirstApplies, ChangesNothing, RefusalChangesNothing, NoneChangesNothing}
+use Rattle.rules.specs.Claims.{RefusedOpeningChangesNothing, FirstRefusalDecides, FirstOpenRefusalDecides, SoundStaysSound, OpeningIsSound}
 use Rattle.rules.proofs.ListLaws.{clash}
 use Rattle.rules.proofs.Rows.{WF, sound-encode}
 use Rattle.rules.proofs.Kept.{wf-step, few-rows}
@@ -81,7 +83,8 @@ decides ts x a e h n =
 pub first-refusal-decides : FirstRefusalDecides
 first-refusal-decides ws c =
     let s : State = decode ws in
-    decides (refusals ws c) (call ws c .answer) (serve s (asked c) .answer) (rw (call-by ws c) (go (firstThatApplies (refusals ws c)))) (serve-unrefused s (asked c))
+    decides (refusals ws c) (call ws c .answer) (serve s (asked c) .answer)
+    (rw (call-by ws c) (go (firstThatApplies (refusals ws c)))) (serve-unrefused s (asked c))
   where
     go : (o : Option ℕ) → callBy o ws c .answer ≡ by o (serve (decode ws) (asked c) .answer)
     go (some n) = refl

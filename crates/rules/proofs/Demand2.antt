@@ -16,10 +16,12 @@ use Rattle.rules.specs.Names.{coStored}
 use Rattle.rules.specs.Fields.{fieldAgrees}
 use Rattle.rules.specs.Matching.{Pair, storedPair, Entry, Op, reading, taking, pairFor, fieldsAgree, partitionsAgree, keysAgree, matches}
 use Rattle.rules.specs.State.{State, giveAll, withEntries, wrote, live, limitOf}
-use Rattle.rules.specs.Calls.{Call, put, seek, done, found, nothing, refused, firstThatApplies, putTable, entryOf, remaining, gained, finding, serve, opened}
+use Rattle.rules.specs.Calls.{Call, put, seek, done, found, nothing, refused}
+use Rattle.rules.specs.Calls.{firstThatApplies, putTable, entryOf, remaining, gained, finding, serve, opened}
 use Rattle.rules.specs.Words.{decode, asked, call, refusals, opening}
 use Rattle.rules.specs.Runs.{run, Line, untaken, strike, recorded, ledger}
-use Rattle.rules.specs.Claims.{Passes, Matches, MatchingRule, StoredCoKey, NoneExactlyWhenNothingMatches, FoundIsOldestMatch, TakeRemoves, ReadRemovesNothing, NoRoomExactlyAtSixteen, RowsSuffice, LiveAreThePutsNotTaken}
+use Rattle.rules.specs.Claims.{Passes, Matches, MatchingRule, StoredCoKey, NoneExactlyWhenNothingMatches}
+use Rattle.rules.specs.Claims.{FoundIsOldestMatch, TakeRemoves, ReadRemovesNothing, NoRoomExactlyAtSixteen, RowsSuffice, LiveAreThePutsNotTaken}
 use Rattle.rules.proofs.BitLaws.{eqb-true, eqb-same}
 use Rattle.rules.proofs.ListLaws.{bool, and-left, and-right, without-split, keep-append}
 use Rattle.rules.proofs.KeyLaws.{stored-le, co-stored}
@@ -56,7 +58,9 @@ matching-rule op p t e = (there, back-again)
 
     there : matches op p t e ≡ true → Matches op p t e
     there h =
-        let v = each (eqb (length t) (length (e .fields))) (fieldsAgree t (e .fields) ∷ partitionsAgree (p .partition) (q .partition) ∷ keysAgree (p .key) (q .key) ∷ []) h in
+        let v =
+        each (eqb (length t) (length (e .fields)))
+        (fieldsAgree t (e .fields) ∷ partitionsAgree (p .partition) (q .partition) ∷ keysAgree (p .key) (q .key) ∷ []) h in
         record {
           counts = eqb-true (length t) (length (e .fields)) (v .0);
           fields = agree-each t (e .fields) (v .1 .0);

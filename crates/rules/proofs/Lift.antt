@@ -15,7 +15,8 @@ use Rattle.rules.specs.State.{State}
 use Rattle.rules.specs.Calls.{Call, put, seek, partyOf, Outcome, remaining, finding, serve, step, opened}
 use Rattle.rules.specs.Words.{encode, decode, asked, resultOf, exitOf, call, opening}
 use Rattle.rules.specs.Runs.{run, reply, replies}
-use Rattle.rules.specs.Group.{Group, member, byGroup, CallInGrasp, unrefused, OutOfGrasp, NamesAt, SameHoldings, Isolated, Isolation, others, Run, startOf, Withheld, Secrecy}
+use Rattle.rules.specs.Group.{Group, member, byGroup, CallInGrasp, unrefused, OutOfGrasp, NamesAt}
+use Rattle.rules.specs.Group.{SameHoldings, Isolated, Isolation, others, Run, startOf, Withheld, Secrecy}
 use Rattle.rules.proofs.ListLaws.{not-false}
 use Rattle.rules.proofs.Rows.{WF}
 use Rattle.rules.proofs.Kept.{wf-step}
