@@ -1,7 +1,8 @@
 /* The shared space in plain C, made as fast as we could: what the proved library is measured against.
    The space is 1809 words: the count of live rows, the partitions and then the keys that each of the eight parties holds, and
    128 rows of 14 words: the writer, the read pair, the take pair (a partition and a key's place each), the field count and
-   eight fields. Every call looks at every word of it (scan); for a read or take the same pass finds the entry.
+   eight fields. Every call looks at every word of it (scan); for a read or take the same pass finds the entry, unless the
+   template has a bound: then another pass does (search).
    GNU C for little-endian machines. It keeps nothing outside the slices that it is lent. */
 #include "plain.h"
 #include <string.h>
@@ -19,6 +20,7 @@ enum { WORDS = 1809, FIRST = 17, ROW = 14, ROWS = 128, MOST = 16, FIELDS = 8 };
 enum { READ = 1, TAKE = 3, COUNT = 5, FIELD = 6 }; /* where in a row its pairs, its count and its fields are */
 #define WILDCARD (3ull << 32)
 #define NEVER UINT32_MAX /* neither a partition nor a writer */
+#define BOUNDED 1u /* said of a template; it's no refusal */
 #define NOINLINE static __attribute__((noinline))
 #define INLINE static inline __attribute__((always_inline))
 
@@ -59,6 +61,13 @@ typedef uint32_t part;
 #endif
 /* The address of the byte is charge + w in the load and again in the store, not added up before. */
 #define CHARGE(w) do { uint8_t *p = charge; HIDE_NOW(p); uint32_t n = p[w] + 1u; HIDE_NOW(p); p[w] = (uint8_t)n; } while (0)
+#endif
+
+/* Bit i of a word in memory. Cortex-M4 shifts a byte of it in fewer instructions than both halves. */
+#ifdef __thumb2__
+#define BIT(w, i) (((const uint8_t *)&(w))[(i) / 8] >> (i) % 8 & 1)
+#else
+#define BIT(w, i) ((w) >> (i) & 1)
 #endif
 
 /* clear: is each word of that many rows 0? clean: make them 0. close_up: move the rows behind `row` up to `live` a row down. */
@@ -132,10 +141,12 @@ INLINE void close_up(uint64_t *row, const uint64_t *live)
 }
 #endif
 
-/* A template, made ready field by field: start, then literal or wildcard for each, then finish. */
+/* A template, made ready field by field: start, then literal or wildcard for each, then finish. To matches() a bound is a
+   wildcard. */
 struct template {
     const uint64_t *space, *fields, *found;
     uint32_t count, partition, key; /* the co-key's place */
+    uint32_t bound; /* a field that is one, if any is */
 #ifdef __SSE2__
     union { uint64_t word[FIELDS]; __m128i pair[FIELDS / 2]; } field, wild;
 };
@@ -177,11 +188,11 @@ INLINE void literal(struct template *t, uint32_t i, uint64_t w) { probe(t, FIELD
 INLINE void wildcard(struct template *t, uint32_t i) { (void)t, (void)i; }
 INLINE void finish(struct template *t) { probe(t, 0, NEVER); }
 
-/* Of a row whose lower halves match: does the whole? */
+/* Of a row whose lower halves match: does the whole? Wildcards and bounds are of the kinds from 3 on. */
 NOINLINE int same(const uint64_t *fields, uint32_t count, const uint64_t *f)
 {
     for (uint32_t i = 0; i < count; i++)
-        if (fields[i] != f[i] && fields[i] != WILDCARD) return 0;
+        if (fields[i] != f[i] && high(fields[i]) < 3) return 0;
     return 1;
 }
 
@@ -306,20 +317,52 @@ NOINLINE int sound(const uint64_t *s, uint64_t *charges) { return scan(s, charge
 NOINLINE int sound_read(struct template *t) { uint64_t charges; return scan(t->space, &charges, t, READ); }
 NOINLINE int sound_take(struct template *t) { uint64_t charges; return scan(t->space, &charges, t, TAKE); }
 
-/* 3. The calls. */
+/* 3. Bounds: at least, at most. */
+
+INLINE int is_bound(uint64_t w) { return high(w) == 4 || high(w) == 5; }
+INLINE int at_least(uint64_t w) { return high(w) == 4; }
+
+/* Of a row that matches but for the bounds. A partition or a key is a word above every message. */
+INLINE int within(const uint64_t *fields, uint32_t count, const uint64_t *f)
+{
+    for (uint32_t i = 0; i < count; i++) {
+        if (!is_bound(fields[i])) continue;
+        if (at_least(fields[i]) ? high(f[i]) || low(f[i]) < low(fields[i]) : f[i] > low(fields[i])) return 0;
+    }
+    return 1;
+}
+
+/* Finds the first row of a sound space that matches a template with bounds. One of them is tested first: most rows fail by it. */
+NOINLINE void search(struct template *t, int at)
+{
+    for (uint32_t i = 0; i < t->count; i++)
+        if (is_bound(t->fields[i])) wildcard(t, i);
+    uint32_t place = FIELD + t->bound;
+    uint64_t bound = t->fields[t->bound];
+    const uint64_t *row = t->space + FIRST, *live = row + ROW * low(t->space[0]);
+    for (;; row += ROW) {
+        if (at_least(bound)) while (row != live && low(row[place]) < low(bound)) row += ROW;
+        else while (row != live && low(row[place]) > low(bound)) row += ROW;
+        if (row == live) return;
+        if (low(row[at]) == t->partition && matches(t, row, at) && within(t->fields, t->count, row + FIELD)) break;
+    }
+    t->found = row;
+}
+
+/* 4. The calls. */
 
 INLINE int bad_pair(uint32_t partition, int32_t key) { return partition > 63 || (uint32_t)key + 31 > 62; }
 
 INLINE int pair_held(const uint64_t *s, uint32_t party, uint32_t partition, int32_t key)
 {
-    return (s[1 + party] >> partition & 1) && (s[9 + party] >> (key + 31) & 1);
+    return BIT(s[1 + party], partition) && BIT(s[9 + party], (uint32_t)(key + 31));
 }
 
 NOINLINE int rights_held(const uint64_t *s, uint32_t party, const uint64_t *f, uint32_t n)
 {
     for (uint32_t i = 0; i < n; i++) {
-        if (high(f[i]) == 1 && !(s[1 + party] >> low(f[i]) & 1)) return 0;
-        if (high(f[i]) == 2 && !(s[9 + party] >> low(f[i]) & 1)) return 0;
+        if (high(f[i]) == 1 && !BIT(s[1 + party], low(f[i]))) return 0;
+        if (high(f[i]) == 2 && !BIT(s[9 + party], low(f[i]))) return 0;
     }
     return 1;
 }
@@ -378,7 +421,7 @@ uint32_t plain_put(uint64_t *restrict s, uint64_t len, uint32_t party, uint32_t 
     return 0;
 }
 
-/* Makes the template ready; the answer is the refusal but for 101, or 0. */
+/* Makes the template ready; the answer is the refusal but for 101, or 0, or BOUNDED. */
 INLINE uint32_t prepare(struct template *t, const uint64_t *s, uint32_t party, uint32_t partition, int32_t key,
                         const uint64_t *f, uint64_t n, uint64_t room, int at)
 {
@@ -398,28 +441,29 @@ INLINE uint32_t prepare(struct template *t, const uint64_t *s, uint32_t party, u
             wildcard(t, i);
             continue;
         }
-        if (!sound_field(f[i])) return 105;
-        kinds |= high(f[i]);
-        literal(t, i, f[i]);
+        if (sound_field(f[i])) {
+            kinds |= high(f[i]);
+            literal(t, i, f[i]);
+        } else if (is_bound(f[i])) {
+            kinds |= 4;
+            t->bound = i;
+        } else return 105;
     }
     finish(t);
     if (room < n) return 106;
-    if (!pair_held(s, party, partition, key) || (kinds && !rights_held(s, party, f, low(n)))) return 107;
-    return 0;
+    if (!pair_held(s, party, partition, key)) return 107;
+    if (!kinds) return 0;
+    if (kinds != 4 && !rights_held(s, party, f, low(n))) return 107; /* not for bounds alone */
+    return kinds >= 4 ? BOUNDED : 0;
 }
 
-INLINE uint32_t seek(uint64_t *restrict s, uint64_t len, uint32_t party, uint32_t partition, int32_t key,
-                     const uint64_t *restrict f, uint64_t n, uint64_t *restrict result, uint64_t room, int at)
+/* The answer of a read or take, and its effect, once the row is looked for. */
+INLINE uint32_t deliver(const struct template *t, uint64_t *restrict s, uint32_t party, uint32_t count,
+                        uint64_t *restrict result, int at)
 {
-    struct template t;
-    uint64_t charges;
-    if (len != WORDS) return 101;
-    uint32_t refusal = prepare(&t, s, party, partition, key, f, n, room, at);
-    if (refusal) return sound(s, &charges) ? refusal : 101;
-    if (!(at == READ ? sound_read(&t) : sound_take(&t))) return 101;
-    if (!t.found) return 0;
-    uint64_t *row = s + (t.found - s);
-    uint32_t count = low(n), kinds = 0;
+    if (!t->found) return 0;
+    uint64_t *row = s + (t->found - s);
+    uint32_t kinds = 0;
     for (uint32_t i = 0; i < count; i++) {
         uint64_t w = row[FIELD + i];
         kinds |= high(w);
@@ -433,6 +477,27 @@ INLINE uint32_t seek(uint64_t *restrict s, uint64_t len, uint32_t party, uint32_
     }
     if (kinds) gain(s, party, result, count);
     return count;
+}
+
+NOINLINE uint32_t seek_bounded(struct template *t, uint64_t *s, uint32_t party, uint64_t *result, int at)
+{
+    uint64_t charges;
+    if (!sound(s, &charges)) return 101;
+    search(t, at);
+    return deliver(t, s, party, t->count, result, at);
+}
+
+INLINE uint32_t seek(uint64_t *restrict s, uint64_t len, uint32_t party, uint32_t partition, int32_t key,
+                     const uint64_t *restrict f, uint64_t n, uint64_t *restrict result, uint64_t room, int at)
+{
+    struct template t;
+    uint64_t charges;
+    if (len != WORDS) return 101;
+    uint32_t refusal = prepare(&t, s, party, partition, key, f, n, room, at);
+    if (refusal == BOUNDED) return seek_bounded(&t, s, party, result, at);
+    if (refusal) return sound(s, &charges) ? refusal : 101;
+    if (!(at == READ ? sound_read(&t) : sound_take(&t))) return 101;
+    return deliver(&t, s, party, low(n), result, at);
 }
 
 uint32_t plain_read(uint64_t *restrict s, uint64_t len, uint32_t party, uint32_t partition, int32_t key,

@@ -13,12 +13,16 @@
 #include <string.h>
 
 #define ANY (3ull << 32)
+#define AT_LEAST (4ull << 32)
+#define AT_MOST (5ull << 32)
 enum { WORDS = 1809, ROWS = 128, ROW = 14, PAINT = 0xA5 };
 #define APART __attribute__((noinline, noclone))
 
 static uint64_t space[WORDS], kept[WORDS], roster[16], result[8];
 static const uint64_t one[1] = {5}, any1[1] = {ANY}, any8[8] = {ANY, ANY, ANY, ANY, ANY, ANY, ANY, ANY};
 static const uint64_t last[8] = {1, 2, 3, 4, 5, 6, 7, 227}, entry[8] = {1, 2, 3, 4, 5, 6, 7, 8};
+static const uint64_t least[8] = {ANY, ANY, ANY, ANY, ANY, ANY, ANY, AT_LEAST + 227};
+static const uint64_t most[8] = {ANY, ANY, ANY, ANY, ANY, ANY, ANY, AT_MOST + 100};
 
 static uint32_t nothing(void) { return 0; }
 static uint32_t put_take(void) { return space_put(space, WORDS, 0, 0, 0, 0, 0, one, 1) + space_take(space, WORDS, 0, 0, 0, any1, 1, result, 8); }
@@ -36,41 +40,47 @@ static uint32_t put8(void) { return space_put(space, WORDS, 7, 0, 0, 0, 0, entry
 static uint32_t read_elsewhere(void) { return space_read(space, WORDS, 0, 3, 0, last, 8, result, 8); }
 static uint32_t take_oldest(void) { return space_take(space, WORDS, 0, 0, 0, any8, 8, result, 8); }
 static uint32_t take_last(void) { return space_take(space, WORDS, 0, 0, 0, last, 8, result, 8); }
+static uint32_t read_at_least(void) { return space_read(space, WORDS, 0, 0, 0, least, 8, result, 8); }
+static uint32_t read_at_most(void) { return space_read(space, WORDS, 0, 0, 0, most, 8, result, 8); }
 
-/* live entries before the round, and the sum of the answers */
+/* live entries before the round, how their last messages go, and the sum of the answers */
 static const struct workload {
     char letter;
-    uint32_t live, sum, (*round)(void);
+    uint32_t live;
+    enum { RISING, FALLING } order;
+    uint32_t sum, (*round)(void);
 } workloads[] = {
-    {'.', 0, 0, nothing},
-    {'a', 0, 0 + 1, put_take},
-    {'b', 128, 8, read_last},
-    {'c', 128, 8 + 0, take_oldest_put},
-    {'d', 128, 107, read_refused},
-    {'e', 128, 0, open_},
-    {'f', 0, 0, put1},
-    {'g', 0, 0, read1},
-    {'h', 127, 0, put8},
-    {'i', 128, 108, put8},
-    {'j', 128, 0, read_elsewhere},
-    {'k', 128, 8, take_oldest},
-    {'l', 128, 8, take_last},
+    {'.', 0, RISING, 0, nothing},
+    {'a', 0, RISING, 0 + 1, put_take},
+    {'b', 128, RISING, 8, read_last},
+    {'c', 128, RISING, 8 + 0, take_oldest_put},
+    {'d', 128, RISING, 107, read_refused},
+    {'e', 128, RISING, 0, open_},
+    {'f', 0, RISING, 0, put1},
+    {'g', 0, RISING, 0, read1},
+    {'h', 127, RISING, 0, put8},
+    {'i', 128, RISING, 108, put8},
+    {'j', 128, RISING, 0, read_elsewhere},
+    {'k', 128, RISING, 8, take_oldest},
+    {'l', 128, RISING, 8, take_last},
+    {'m', 128, RISING, 8, read_at_least},
+    {'n', 128, FALLING, 8, read_at_most},
 };
 enum { WORKLOADS = sizeof workloads / sizeof *workloads };
 
 /* Words written as they stand, so that nothing but the round calls the library. Party p writes 16 rows of 8 messages, under the
-   defaults; everybody holds partitions 0 to 7 and keys -31 to -24 and 0. */
-static void prepare(uint32_t live)
+   defaults; the last message goes from 100 up or from 227 down. Everybody holds partitions 0 to 7 and keys -31 to -24 and 0. */
+static void prepare(const struct workload *w)
 {
     memset(kept, 0, sizeof kept);
-    kept[0] = live;
+    kept[0] = w->live;
     for (uint32_t i = 0; i < 8; i++) {
         roster[i] = roster[8 + i] = 255;
         kept[1 + i] = 255;
         kept[9 + i] = 255 | 1ull << 31;
     }
-    for (uint32_t r = 0; r < live; r++) {
-        uint64_t row[ROW] = {r / 16, 0, 31, 0, 31, 8, 1, 2, 3, 4, 5, 6, 7, 100 + r};
+    for (uint32_t r = 0; r < w->live; r++) {
+        uint64_t row[ROW] = {r / 16, 0, 31, 0, 31, 8, 1, 2, 3, 4, 5, 6, 7, w->order == RISING ? 100 + r : 227 - r};
         memcpy(kept + 17 + ROW * r, row, sizeof row);
     }
 }
@@ -127,14 +137,14 @@ static uint32_t two_thousand(void)
 #ifndef TRACED
 int main(void)
 {
-    static const struct workload known = {'=', 0, 0, two_thousand};
+    static const struct workload known = {'=', 0, RISING, 0, two_thousand};
     SYSTICK_RELOAD = 0xffffff, SYSTICK_NOW = 0, SYSTICK_CONTROL = 5;
-    prepare(0);
+    prepare(&workloads[0]);
     uint32_t around = instructions(&workloads[0]);
     printf("= %u 0\n", (unsigned)(instructions(&known) - around));
     for (uint32_t i = 1; i < WORKLOADS; i++) {
         const struct workload *w = &workloads[i];
-        prepare(w->live);
+        prepare(w);
         uint32_t count = instructions(w) - around;
         if (answer != w->sum) return printf("FAILED: %c answers %u\n", w->letter, (unsigned)answer), 1;
         printf("%c %u %u\n", w->letter, (unsigned)count, (unsigned)deepest(w, end));
@@ -148,7 +158,7 @@ int main(void)
 {
     for (uint32_t i = 0; i < WORKLOADS; i++)
         if (workloads[i].letter == TRACED) {
-            prepare(workloads[i].live);
+            prepare(&workloads[i]);
             put_back();
             mark();
             measured(&workloads[i]);
@@ -175,7 +185,7 @@ int main(int argc, char **argv)
     for (uint32_t i = 0; i < WORKLOADS; i++) {
         const struct workload *w = &workloads[i];
         if (w->letter != argv[1][0]) continue;
-        prepare(w->live);
+        prepare(w);
         put_back();
         answer = w->round(); /* the first time also binds what the call links to */
         if (answer != w->sum) return printf("%c answers %u\n", w->letter, (unsigned)answer), 1;

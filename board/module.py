@@ -23,7 +23,8 @@ TYPE = r'(?:i1|i8|i16|i32|i64|ptr)'
 NAME = r'@(?:"[\w:]+"|\w+)'
 NOTES = r'(?:, ![\w.]+ !\d+)*'
 ARGUMENTS = rf'(?:{TYPE} {VALUE}(?:, {TYPE} {VALUE})*)?'
-PARAMETERS = rf'(?:{TYPE} noundef %\w+(?:, {TYPE} noundef %\w+)*)?'
+PARAMETER = rf'(?:{TYPE} noundef|i1 noundef zeroext) %\w+'
+PARAMETERS = rf'(?:{PARAMETER}(?:, {PARAMETER})*)?'
 
 # Every form of line that the module may have. Numbers are compared and computed with as numbers of their own width; a pointer
 # is only stored, loaded, passed on and moved by a count of bytes. So no ptrtoint, no comparison of pointers, no size of a type.

@@ -147,6 +147,30 @@ static void a_trigger(void)
     step(&digitiser, "takes trigger 1 down", to_take(triggers, TRIGGER, space_message(1), ANY), FOUND);
 }
 
+/* A picker goes through the triggers of at least 8000 samples and leaves them to the others. It goes on by the running number, since
+   triggers are found in the order in which they were put. */
+static void triggers_after(void)
+{
+    uint64_t next = 2;
+    int taken = 0;
+    struct request down = to_take(triggers, TRIGGER, space_at_most(3), ANY);
+    step(&digitiser, "puts trigger 2, 9000 samples", to_put(triggers, co(triggers), TRIGGER, space_message(2), space_message(9000)), DONE);
+    step(&digitiser, "puts trigger 3, 7000 samples", to_put(triggers, co(triggers), TRIGGER, space_message(3), space_message(7000)), DONE);
+    step(&digitiser, "puts trigger 4, 12000 samples", to_put(triggers, co(triggers), TRIGGER, space_message(4), space_message(12000)), DONE);
+    for (int i = 0; i < 2; i++) {
+        struct request asked = to_read(co(triggers), TRIGGER, space_at_least(next), space_at_least(8000));
+        struct request got = step(&picker_a, "reads the next of at least 8000 samples", asked, FOUND);
+        next = (uint64_t)space_value(got.found[1]) + 1;
+    }
+    step(&picker_a, "reads the next", to_read(co(triggers), TRIGGER, space_at_least(next), space_at_least(8000)), NONE);
+    step(&picker_b, "reads the oldest of them", to_read(co(triggers), TRIGGER, ANY, space_at_least(8000)), FOUND);
+    while (digitiser.door(&down) == FOUND) taken++;
+    printf("digitiser  takes the triggers up to number 3 down: %d\n", taken);
+    step(&picker_b, "reads the oldest of them", to_read(co(triggers), TRIGGER, ANY, space_at_least(8000)), FOUND);
+    step(&digitiser, "takes trigger 4 down", to_take(triggers, TRIGGER, space_message(4), ANY), FOUND);
+    surprises += taken != 2;
+}
+
 /* A pick is read by its own group and taken by the telemetry. A neighbour holds no key of the group, so it can neither see the
    picks nor thin them out. */
 static void picks(void)
@@ -215,6 +239,7 @@ int main(void)
     uint32_t opened = open_space();
     printf("host       opens the space: %s\n", opened == DONE ? "done" : space_meaning(opened));
     a_trigger();
+    triggers_after();
     picks();
     a_setting();
     names();

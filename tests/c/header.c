@@ -7,21 +7,63 @@ typedef unsigned long long number;
 
 static uint64_t space[SPACE_WORDS];
 
-/* The word, or that it is bad; and what a put of it answers, and a take with it as template, for a party that holds every name. */
-static void show_word(uint64_t word)
+/* A put and a take of one word by party 0, which holds every name. */
+static uint32_t put(uint64_t word) { return space_put(space, SPACE_WORDS, 0, 0, 0, 0, 0, &word, 1); }
+
+static uint32_t take(uint64_t word)
 {
     uint64_t result[SPACE_MOST_FIELDS];
-    uint32_t put = space_put(space, SPACE_WORDS, 0, 0, 0, 0, 0, &word, 1);
-    uint32_t take = space_take(space, SPACE_WORDS, 0, 0, 0, &word, 1, result, SPACE_MOST_FIELDS);
-    if (space_kind(word) == SPACE_KIND_BAD) printf("bad");
-    else printf("word %llu", (number)word);
-    printf(", put %u, take %u\n", (unsigned)put, (unsigned)take);
+    return space_take(space, SPACE_WORDS, 0, 0, 0, &word, 1, result, SPACE_MOST_FIELDS);
 }
 
+/* The word, or that it is bad; and what a put of it answers, and a take with it as template. */
+static void show_word(uint64_t word)
+{
+    uint32_t of_put = put(word);
+    uint32_t of_take = take(word);
+    if (space_kind(word) == SPACE_KIND_BAD) printf("bad");
+    else printf("word %llu", (number)word);
+    printf(", put %u, take %u\n", (unsigned)of_put, (unsigned)of_take);
+}
+
+/* A number as message and as each bound. */
 static void show_message(uint64_t message)
 {
     printf("message %llu: ", (number)message);
     show_word(space_message(message));
+    printf("at least %llu: ", (number)message);
+    show_word(space_at_least(message));
+    printf("at most %llu: ", (number)message);
+    show_word(space_at_most(message));
+}
+
+/* What a take by this bound answers while this field is there, and whether the field is left. */
+static void show_take(uint64_t field, const char *what, uint32_t message, uint64_t bound)
+{
+    uint32_t of_put = put(field);
+    uint32_t of_bound = take(bound);
+    uint32_t left = take(SPACE_WILDCARD);
+    printf("of word %llu, put %u, %s %u: take %u, left %u\n", (number)field, (unsigned)of_put, what, (unsigned)message, (unsigned)of_bound,
+           (unsigned)left);
+}
+
+static void show_bounds(uint64_t field, uint32_t message)
+{
+    show_take(field, "at least", message, space_at_least(message));
+    show_take(field, "at most", message, space_at_most(message));
+}
+
+/* Every bound against every message of some, and against names that are as low. */
+static void show_takes_by_bounds(void)
+{
+    const uint32_t messages[8] = {0, 1, 62, 63, INT32_MAX, UINT32_C(1) << 31, UINT32_MAX - 1, UINT32_MAX};
+    for (int i = 0; i < 8; i++) {
+        for (int j = 0; j < 8; j++) show_bounds(space_message(messages[j]), messages[i]);
+        show_bounds(space_partition(0), messages[i]);
+        show_bounds(space_partition(SPACE_LAST_PARTITION), messages[i]);
+        show_bounds(space_key(-SPACE_LAST_KEY), messages[i]);
+        show_bounds(space_key(SPACE_LAST_KEY), messages[i]);
+    }
 }
 
 static void show_partition(uint32_t partition)
@@ -93,7 +135,8 @@ int main(void)
     uint64_t state = 88172645463325252u;
     printf("words %d, roster %d, fields %d, parties %d, live entries %d, partitions to %d, keys to %d, the wildcard %llu\n", SPACE_WORDS,
            SPACE_ROSTER_WORDS, SPACE_MOST_FIELDS, SPACE_PARTIES, SPACE_SHARE, SPACE_LAST_PARTITION, SPACE_LAST_KEY, (number)SPACE_WILDCARD);
-    printf("kinds %d %d %d %d, bad %d\n", SPACE_KIND_MESSAGE, SPACE_KIND_PARTITION, SPACE_KIND_KEY, SPACE_KIND_WILDCARD, SPACE_KIND_BAD);
+    printf("kinds %d %d %d %d %d %d, bad %u\n", SPACE_KIND_MESSAGE, SPACE_KIND_PARTITION, SPACE_KIND_KEY, SPACE_KIND_WILDCARD,
+           SPACE_KIND_AT_LEAST, SPACE_KIND_AT_MOST, (unsigned)SPACE_KIND_BAD);
     open_for_all();
     printf("the wildcard: ");
     show_word(SPACE_WILDCARD);
@@ -110,7 +153,8 @@ int main(void)
         show_key(INT32_MIN + step);
         show_key(INT32_MAX - step);
     }
-    for (uint64_t kind = 0; kind <= 5; kind++) {
+    show_takes_by_bounds();
+    for (uint64_t kind = 0; kind <= 7; kind++) {
         for (uint64_t value = 0; value <= 70; value++) show_kind(kind * 4294967296u + value);
         for (uint32_t bit = 7; bit < 32; bit++) show_kind(kind * 4294967296u + (UINT64_C(1) << bit));
         show_kind(kind * 4294967296u + UINT32_MAX);
@@ -119,7 +163,7 @@ int main(void)
     show_kind(UINT64_MAX);
     for (int i = 0; i < 200; i++) {
         show_kind(some_word(&state));
-        show_kind(some_word(&state) % (5 * UINT64_C(4294967296)));
+        show_kind(some_word(&state) % (7 * UINT64_C(4294967296)));
     }
     for (uint32_t party = 0; party <= 9; party++)
         for (int32_t at = 0; at <= 66; at += 1 + (int32_t)party) show_gifts(party, (uint32_t)at, at - 33);

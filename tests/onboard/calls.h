@@ -24,8 +24,19 @@ static const uint64_t usual_roster[ROSTER] = {7, 7, 7, 7, 7, 7, 7, 3, KEYS_3_TO_
 /* a word at the edges of the kinds' ranges */
 static inline uint64_t edge(void)
 {
-    uint64_t kind = below(6);
+    uint64_t kind = below(8);
     return kind << 32 | below(80);
+}
+
+/* a bound at a number, just below or just above it, or at the end of the range, or anywhere */
+static inline uint64_t a_bound(uint32_t number)
+{
+    uint64_t kind = seldom(2) ? AT_LEAST : AT_MOST;
+    uint32_t at = below(16);
+    if (at == 0) return kind;
+    if (at == 1) return kind + UINT32_MAX;
+    if (at == 2) return kind + (uint32_t)any64();
+    return kind + (number + below(3) - 1);
 }
 
 static inline uint64_t a_field(int in_template)
@@ -33,13 +44,15 @@ static inline uint64_t a_field(int in_template)
     uint32_t at = below(1000);
     if (at < 3) return any64(); /* bad, nearly always */
     if (at < 8) return edge();
-    if (at < 10 || (in_template && at < 400)) return WILDCARD;
-    if (at < 860) return below(3);
+    if (at < 10 || (in_template && at < 350)) return WILDCARD;
+    if (at < 12 || (in_template && at < 450)) return a_bound(below(3));
+    if (at < 850) return below(3);
+    if (at < 870) return UINT32_MAX;
     if (at < 880) return (uint32_t)any64();
     return at < 940 ? PARTITION_FIELD + below(4) : KEY_FIELD + 28 + below(6);
 }
 
-/* A template that a live row matches, now and then with a wildcard for a field. */
+/* A template that a live row matches, now and then with a wildcard for a field, or with a bound, by which it may just fail. */
 static inline void a_match(struct call *c, const uint64_t *space)
 {
     const uint64_t *row = space + row_at(below((uint32_t)space[0]));
@@ -47,7 +60,10 @@ static inline void a_match(struct call *c, const uint64_t *space)
     c->partition[0] = (uint32_t)row[pair];
     c->key[0] = 31 - (int32_t)row[pair + 1];
     c->count = row[COUNT];
-    for (uint32_t i = 0; i < MOST_FIELDS; i++) c->list[i] = below(3) ? row[FIELDS + i] : WILDCARD;
+    for (uint32_t i = 0; i < MOST_FIELDS; i++) {
+        uint32_t at = below(9);
+        c->list[i] = at < 5 ? row[FIELDS + i] : at < 8 ? WILDCARD : a_bound((uint32_t)row[FIELDS + i]);
+    }
 }
 
 /* Lengths that need more than 32 bits, most of them with the right number in the lower half. */

@@ -36,8 +36,8 @@ static uint32_t make(const struct side *by, struct lent *on, const struct call *
                                                    on->result, c->room);
 }
 
-/* One bit of the space turned over, by the clause of soundness that it should break; 0 where the space has no place for that. */
-enum { FIRST_CLAUSE = 2, CLAUSES = 10 }; /* S2 to S9 of docs/RULES.md */
+/* Bits of the space turned over, by the clause of soundness that this should break; 0 where the space has no place for that. */
+enum { FIRST_CLAUSE = 2, BY_AT_LEAST = 10, BY_AT_MOST, CLAUSES }; /* S2 to S9 of docs/RULES.md, then S6 by a bound in a live row */
 
 static int damage(uint32_t clause, const uint64_t *space, uint32_t *word, uint64_t *bits)
 {
@@ -51,6 +51,11 @@ static int damage(uint32_t clause, const uint64_t *space, uint32_t *word, uint64
     case 6: return *word = at + (seldom(2) ? below(FIELDS) : FIELDS), *bits = 1ull << (6 + below(58)), live > 0;
     case 7: return *word = at + ROW - 1, live > 0 && space[at + COUNT] < MOST_FIELDS;
     case 8: return *word = at, *bits = 1 + below(PARTIES - 1), live > 0;
+    case BY_AT_LEAST:
+    case BY_AT_MOST:
+        *word = live ? at + FIELDS + below((uint32_t)space[at + COUNT]) : 0;
+        *bits = (space[*word] & ~(uint64_t)UINT32_MAX) ^ (clause == BY_AT_LEAST ? AT_LEAST : AT_MOST);
+        return live > 0;
     default: return *word = row_at(live) + below(ROW), live < ROWS;
     }
 }
@@ -58,11 +63,47 @@ static int damage(uint32_t clause, const uint64_t *space, uint32_t *word, uint64
 static uint32_t answers[KINDS][ANSWERS], damaged[CLAUSES], long_space, long_roster, long_fields, long_result, bound_63, most_rows;
 static uint64_t hash = 0xcbf29ce484222325u;
 
+/* What the bounds met with, each counted for itself: in a put that was refused by 105, or in a template that was not refused. */
+enum { NONE, FOUND, ITS_NUMBER, BY_0, BY_THE_LARGEST, A_PARTITION, A_KEY, IN_A_PUT, MEETINGS };
+static uint32_t met[2][MEETINGS]; /* at least, at most */
+
 static void hash_in(uint64_t word) { hash = (hash ^ word) * 0x100000001b3u; }
+
+/* Does a bound meet with a name of a kind (1, 2) whose number it would allow, in a live row with the template's pair and count? A
+   row that was taken had none. */
+static int meets(const struct call *c, uint32_t place, uint32_t kind)
+{
+    uint32_t pair = c->kind == READ ? READ_PARTITION : TAKE_PARTITION, bound = (uint32_t)c->list[place];
+    for (uint32_t r = 0; r < proved.space[0]; r++) {
+        const uint64_t *row = proved.space + row_at(r);
+        uint32_t number = (uint32_t)row[FIELDS + place];
+        if (row[pair] != c->partition[0] || (int32_t)row[pair + 1] != 31 - c->key[0] || row[COUNT] != c->count) continue;
+        if (row[FIELDS + place] >> 32 == kind && (c->list[place] < AT_MOST ? number >= bound : number <= bound)) return 1;
+    }
+    return 0;
+}
+
+static void count_bounds(const struct call *c, uint32_t answer)
+{
+    for (uint32_t i = 0; c->kind != OPEN && i < MOST_FIELDS && i < c->count; i++) {
+        uint64_t bound = c->list[i];
+        if (!is_bound(bound)) continue;
+        uint32_t *times = met[bound >= AT_MOST], number = (uint32_t)bound;
+        if (c->kind == PUT) times[IN_A_PUT] += answer == 105;
+        if (c->kind == PUT || answer > MOST_FIELDS) continue;
+        times[A_PARTITION] += meets(c, i, 1);
+        times[A_KEY] += meets(c, i, 2);
+        times[answer ? FOUND : NONE]++;
+        times[ITS_NUMBER] += answer && proved.result[i] == number;
+        times[BY_0] += answer && number == 0;
+        times[BY_THE_LARGEST] += answer && number == UINT32_MAX;
+    }
+}
 
 static void count(const struct call *c, uint32_t answer)
 {
     answers[c->kind][answer]++;
+    count_bounds(c, answer);
     if (c->space_len >> 32) long_space++;
     else if (c->count >> 32) *(c->kind == OPEN ? &long_roster : &long_fields) += answer == (c->kind == OPEN ? 109 : 103);
     else if (c->kind > PUT && c->room >> 32) long_result += answer - 1 < MOST_FIELDS;
@@ -141,7 +182,9 @@ static int tried(const char *what, uint32_t times)
 
 static int all_tried(void)
 {
-    static const char *const names[] = {"open", "put", "read", "take"};
+    static const char *const names[] = {"open", "put", "read", "take"}, *const bounds[] = {"at least", "at most"};
+    static const char *const meetings[] = {"none", "found", "found, its own number", "0, found", "4294967295, found",
+                                           "met with a partition", "met with a key", "refused in a put"};
     int ok = 1;
     for (uint32_t kind = 0; kind < KINDS; kind++)
         for (uint32_t a = 0; a < ANSWERS; a++) {
@@ -153,10 +196,17 @@ static int all_tried(void)
             else if (answers[kind][a]) ok = 0, printf("FAILED: %s %u\n", what, (unsigned)answers[kind][a]);
         }
     for (uint32_t clause = FIRST_CLAUSE; clause < CLAUSES; clause++) {
-        char what[32];
-        snprintf(what, sizeof what, "damage refused, S%u:", (unsigned)clause);
+        char what[48];
+        if (clause < BY_AT_LEAST) snprintf(what, sizeof what, "damage refused, S%u:", (unsigned)clause);
+        else snprintf(what, sizeof what, "damage refused, S6, %s in a row:", bounds[clause - BY_AT_LEAST]);
         ok &= tried(what, damaged[clause]);
     }
+    for (uint32_t kind = 0; kind < 2; kind++)
+        for (uint32_t m = 0; m < MEETINGS; m++) {
+            char what[48];
+            snprintf(what, sizeof what, "%s, %s:", bounds[kind], meetings[m]);
+            ok &= tried(what, met[kind][m]);
+        }
     ok &= tried("lengths of 2^32 and more, space:", long_space) & tried("roster:", long_roster) & tried("fields:", long_fields);
     ok &= tried("result, and found:", long_result) & tried("bit 63 in a roster:", bound_63);
     printf("most live rows %u%s\n", (unsigned)most_rows, most_rows == ROWS ? "" : " FAILED: never full");

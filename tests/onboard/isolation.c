@@ -14,6 +14,7 @@ static uint64_t space[2][WORDS];
 static uint32_t group;                      /* a bit for each member */
 static uint64_t partitions, keys;           /* G4: the group's names */
 static uint32_t compared, found, others_done, others_found, entries, names_gained;
+static uint32_t found_by_bounds, others_found_by_bounds; /* templates with a bound */
 
 static int member(uint32_t party) { return party < PARTIES && group >> party & 1; }
 
@@ -60,7 +61,7 @@ static uint32_t make(uint32_t run, const struct call *c, uint64_t *result)
     }
 }
 
-/* A call that names some of the first partitions, and keys from -most to most; a template has mostly wildcards. */
+/* A call that names some of the first partitions, and keys from -most to most; a template has mostly wildcards and bounds. */
 static void a_run_call(struct call *c, uint32_t first, int32_t most)
 {
     c->kind = seldom(2) ? PUT : seldom(2) ? READ : TAKE;
@@ -72,8 +73,16 @@ static void a_run_call(struct call *c, uint32_t first, int32_t most)
     c->room = seldom(40) ? below(2) : MOST_FIELDS;
     for (uint32_t i = 0; i < 10; i++) {
         uint64_t name = seldom(2) ? PARTITION_FIELD + below(first) : KEY_FIELD + 31 - (uint32_t)most + below(2 * (uint32_t)most + 1);
-        c->list[i] = c->kind != PUT && below(4) ? WILDCARD : below(4) ? below(3) : name;
+        uint64_t bound = a_bound(below(3));
+        c->list[i] = c->kind != PUT && below(4) ? (below(3) ? WILDCARD : bound) : below(4) ? below(3) : name;
     }
+}
+
+static int has_bound(const struct call *c)
+{
+    uint32_t i = 0;
+    while (i < c->count && !is_bound(c->list[i])) i++;
+    return i < c->count;
 }
 
 static uint32_t a_party(int inside)
@@ -95,7 +104,7 @@ static void other_call(uint32_t run)
     if (in_grasp(&c)) c.count = seldom(2) ? 0 : 9;
     uint32_t answer = make(run, &c, result);
     if (c.kind == PUT) others_done += answer == 0;
-    else others_found += answer - 1 < MOST_FIELDS;
+    else if (answer - 1 < MOST_FIELDS) others_found++, others_found_by_bounds += has_bound(&c);
 }
 
 static int group_call(void)
@@ -112,7 +121,7 @@ static int group_call(void)
     compared++;
     if (answer[0] != answer[1]) return 0;
     if (c.kind == PUT || answer[0] - 1 >= MOST_FIELDS) return 1;
-    found++;
+    found++, found_by_bounds += has_bound(&c);
     for (uint32_t i = 0; i < answer[0]; i++) {
         if (result[0][i] != result[1][i]) return 0;
         names_gained += result[0][i] >> 32 != 0;
@@ -164,7 +173,9 @@ int main(void)
     printf("group calls compared %u, of them found %u, with names gained %u, entries compared %u\n", (unsigned)compared,
            (unsigned)found, (unsigned)names_gained, (unsigned)entries);
     printf("others' puts done %u, others' entries found %u\n", (unsigned)others_done, (unsigned)others_found);
-    if (!compared || !found || !names_gained || !entries || !others_done || !others_found) return printf("FAILED: a count is 0\n"), 1;
+    printf("found by templates with bounds: by the group %u, by others %u\n", (unsigned)found_by_bounds, (unsigned)others_found_by_bounds);
+    if (!compared || !found || !names_gained || !entries || !others_done || !others_found || !found_by_bounds || !others_found_by_bounds)
+        return printf("FAILED: a count is 0\n"), 1;
     printf("%u pairs of runs alike\n", (unsigned)PAIRS);
     return 0;
 }

@@ -10,6 +10,9 @@ enum { WRITER, READ_PARTITION, READ_KEY, TAKE_PARTITION, TAKE_KEY, COUNT, FIELDS
 #define PARTITION_FIELD (1ull << 32)
 #define KEY_FIELD (2ull << 32)
 #define WILDCARD (3ull << 32)
+#define AT_LEAST (4ull << 32)
+#define AT_MOST (5ull << 32)
 
 static inline uint32_t row_at(uint32_t row) { return ROWS_AT + ROW * row; }
+static inline int is_bound(uint64_t field) { return field >> 32 == 4 || field >> 32 == 5; }
 #endif

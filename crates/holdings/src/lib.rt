@@ -28,6 +28,8 @@ fn hold_name(space: &mut [u64], party: usize, w: u64)
             space[9 + party] = keys;
         }
         Field::Wildcard => {}
+        Field::AtLeast(_) => {}
+        Field::AtMost(_) => {}
         Field::Bad => {}
     }
 }

@@ -9,7 +9,11 @@ const KEY: u64 = 8589934592;
 
 const WILDCARD: u64 = 12884901888;
 
-const KIND_4: u64 = 17179869184;
+const AT_LEAST: u64 = 17179869184;
+
+const AT_MOST: u64 = 21474836480;
+
+const KIND_6: u64 = 25769803776;
 
 // Holdings: partition 5, key 4, which is stored as 35, and key -4, which is stored as 27.
 const PARTITION_5: u64 = 32;
@@ -26,6 +30,7 @@ fn main() {
     put_of_unsound(words);
     put_refused(words);
     put_of_bad_fields(words);
+    put_of_bounds(words);
     put_of_others_names(words);
     put_refused_twice(words);
     put_at_the_limit(words);
@@ -58,6 +63,13 @@ fn first_1808(words: [u64; 1809]) -> [u64; 1808] {
 fn with_129_entries(words: [u64; 1809]) -> [u64; 1809] {
     let mut damaged = words;
     damaged[0] = 129;
+    damaged
+}
+
+// The first field of the first row.
+fn with_a_bound(words: [u64; 1809]) -> [u64; 1809] {
+    let mut damaged = words;
+    damaged[23] = AT_LEAST + 7;
     damaged
 }
 
@@ -105,14 +117,25 @@ fn put_refused(words: [u64; 1809]) {
 }
 
 fn put_of_bad_fields(words: [u64; 1809]) {
-    say(b"put, field of kind 4");
-    put(words, 0, 5, 4, 5, 4, &[KIND_4]);
+    say(b"put, field of kind 6");
+    put(words, 0, 5, 4, 5, 4, &[KIND_6]);
     say(b"put, field with partition 64");
     put(words, 0, 5, 4, 5, 4, &[PARTITION + 64]);
     say(b"put, field with stored key 63");
     put(words, 0, 5, 4, 5, 4, &[KEY + 63]);
     say(b"put, wildcard");
     put(words, 0, 5, 4, 5, 4, &[WILDCARD]);
+}
+
+fn put_of_bounds(words: [u64; 1809]) {
+    say(b"put, at least 7");
+    put(words, 0, 5, 4, 5, 4, &[AT_LEAST + 7]);
+    say(b"put, at most 7");
+    put(words, 0, 5, 4, 5, 4, &[AT_MOST + 7]);
+    say(b"put, read partition 64, at least 7");
+    put(words, 0, 64, 4, 5, 4, &[AT_LEAST + 7]);
+    say(b"put, at most 7, read key -4 not held");
+    put(words, 0, 5, -4, 5, 4, &[AT_MOST + 7]);
 }
 
 fn put_of_others_names(words: [u64; 1809]) {
@@ -171,6 +194,7 @@ fn seek_examples(opened: [u64; 1809], taking: bool) {
     seek_of_unsound(words, taking);
     seek_refused(words, taking);
     seek_of_bad_fields(words, taking);
+    seek_of_bounds(words, taking);
     seek_of_others_names(words, taking);
     seek_refused_twice(words, taking);
     say_seek(taking, b"nothing wrong");
@@ -202,8 +226,8 @@ fn seek_refused(words: [u64; 1809], taking: bool) {
 }
 
 fn seek_of_bad_fields(words: [u64; 1809], taking: bool) {
-    say_seek(taking, b"field of kind 4");
-    seek(words, taking, 1, 5, -4, &[7, KIND_4]);
+    say_seek(taking, b"field of kind 6");
+    seek(words, taking, 1, 5, -4, &[7, KIND_6]);
     say_seek(taking, b"field with partition 64");
     seek(words, taking, 1, 5, -4, &[7, PARTITION + 64]);
     say_seek(taking, b"field with stored key 63");
@@ -212,6 +236,15 @@ fn seek_of_bad_fields(words: [u64; 1809], taking: bool) {
     seek(words, taking, 1, 5, -4, &[7, WILDCARD + 1]);
     say_seek(taking, b"2 fields, 1 result word");
     seek_to_one_word(words, taking, -4, &[7, 120]);
+}
+
+fn seek_of_bounds(words: [u64; 1809], taking: bool) {
+    say_seek(taking, b"a row with at least 7");
+    seek(with_a_bound(words), taking, 1, 5, -4, &[7, 120]);
+    say_seek(taking, b"bounds, 1 result word");
+    seek_to_one_word(words, taking, -4, &[AT_MOST + 7, AT_LEAST + 120]);
+    say_seek(taking, b"bounds, nothing wrong");
+    seek(words, taking, 1, 5, -4, &[AT_MOST + 7, AT_LEAST + 120]);
 }
 
 fn seek_of_others_names(words: [u64; 1809], taking: bool) {
@@ -230,10 +263,10 @@ fn seek_refused_twice(words: [u64; 1809], taking: bool) {
     seek(words, taking, 8, 5, -4, &[]);
     say_seek(taking, b"9 fields, partition 64");
     seek(words, taking, 1, 64, -4, &[7; 9]);
-    say_seek(taking, b"key 32, field of kind 4");
-    seek(words, taking, 1, 5, 32, &[7, KIND_4]);
-    say_seek(taking, b"field of kind 4, 1 result word");
-    seek_to_one_word(words, taking, -4, &[7, KIND_4]);
+    say_seek(taking, b"key 32, field of kind 6");
+    seek(words, taking, 1, 5, 32, &[7, KIND_6]);
+    say_seek(taking, b"field of kind 6, 1 result word");
+    seek_to_one_word(words, taking, -4, &[7, KIND_6]);
     say_seek(taking, b"1 result word, key 4 not held");
     seek_to_one_word(words, taking, 4, &[7, 120]);
 }

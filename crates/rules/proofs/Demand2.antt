@@ -13,21 +13,22 @@ use lib.IntN.{ℤ}
 use lib.ListN.{length, getD, drop, length-append}
 use Rattle.rules.specs.Lists.{keep, first, without, All}
 use Rattle.rules.specs.Names.{coStored}
-use Rattle.rules.specs.Fields.{fieldAgrees}
+use Rattle.rules.specs.Fields.{wildcard, field, isBound, fieldAgrees}
 use Rattle.rules.specs.Matching.{Pair, storedPair, Entry, Op, reading, taking, pairFor, fieldsAgree, partitionsAgree, keysAgree, matches}
 use Rattle.rules.specs.State.{State, giveAll, withEntries, wrote, live, limitOf}
 use Rattle.rules.specs.Calls.{Call, put, seek, done, found, nothing, refused}
 use Rattle.rules.specs.Calls.{firstThatApplies, putTable, entryOf, remaining, gained, finding, serve, opened}
 use Rattle.rules.specs.Words.{decode, asked, call, refusals, opening}
 use Rattle.rules.specs.Runs.{run, Line, untaken, strike, recorded, ledger}
-use Rattle.rules.specs.Claims.{Passes, Matches, MatchingRule, StoredCoKey, NoneExactlyWhenNothingMatches}
+use Rattle.rules.specs.Claims.{Iff, Passes, Matches, MatchingRule, MatchingWithoutBounds, StoredCoKey, NoneExactlyWhenNothingMatches}
 use Rattle.rules.specs.Claims.{FoundIsOldestMatch, TakeRemoves, ReadRemovesNothing, NoRoomExactlyAtSixteen, RowsSuffice, LiveAreThePutsNotTaken}
 use Rattle.rules.proofs.BitLaws.{eqb-true, eqb-same}
-use Rattle.rules.proofs.ListLaws.{bool, and-left, and-right, without-split, keep-append}
+use Rattle.rules.proofs.ListLaws.{bool, and-left, and-right, All-at, without-split, keep-append}
 use Rattle.rules.proofs.KeyLaws.{stored-le, co-stored}
 use Rattle.rules.proofs.Rows.{WF}
 use Rattle.rules.proofs.Kept.{live-amid, wf-serve, few-rows}
 use Rattle.rules.proofs.Back.{each, wf-decode}
+use Rattle.rules.proofs.FieldLaws.{without-bound}
 use Rattle.rules.proofs.Gifts.{giveAll-entries}
 use Rattle.rules.proofs.WordRuns.{back, Opened, open-done}
 use Rattle.rules.proofs.Decided.{callBy, call-by, passes-table, passes-call, passes-left, call-leaves}
@@ -56,7 +57,7 @@ matching-rule op p t e = (there, back-again)
     q : Pair ℕ
     q = pairFor op e
 
-    there : matches op p t e ≡ true → Matches op p t e
+    there : matches op p t e ≡ true → Matches (λ t f. fieldAgrees t f ≡ true) op p t e
     there h =
         let v =
         each (eqb (length t) (length (e .fields)))
@@ -68,9 +69,23 @@ matching-rule op p t e = (there, back-again)
           keys = eqb-true (coStored (q .key)) (p .key) (v .1 .1 .1 .0);
         }
 
-    back-again : Matches op p t e → matches op p t e ≡ true
+    back-again : Matches (λ t f. fieldAgrees t f ≡ true) op p t e → matches op p t e ≡ true
     back-again h =
         rw (eqb-of (h .counts), each-agrees t (e .fields) (h .counts) (h .fields), eqb-of (h .partitions), eqb-of (h .keys)) refl
+
+pub matching-without-bounds : MatchingWithoutBounds
+matching-without-bounds op p t e plain =
+    (λ h. fieldwise (λ i l. at i l .0) (matching-rule op p t e .0 h), λ m. matching-rule op p t e .1 (fieldwise (λ i l. at i l .1) m))
+  where
+    at : (i : ℕ) → i < length t
+        → Iff (fieldAgrees (getD t i 0) (getD (e .fields) i 0) ≡ true) ((field (getD t i 0) ≡ wildcard) ⊎ (getD t i 0 ≡ getD (e .fields) i 0))
+    at i l = without-bound (getD t i 0) (getD (e .fields) i 0) (All-at (λ w. isBound (field w) ≡ false) t plain i l)
+
+    fieldwise : {A B : ℕ → ℕ → Type 0}
+        → ((i : ℕ) → i < length t → A (getD t i 0) (getD (e .fields) i 0) → B (getD t i 0) (getD (e .fields) i 0))
+        → Matches A op p t e → Matches B op p t e
+    fieldwise f m =
+        record { counts = m .counts; fields = λ i l. f i l (m .fields i l); partitions = m .partitions; keys = m .keys }
 
 pub stored-co-key : StoredCoKey
 stored-co-key k h = (co-stored k h, stored-le k h)

@@ -12,7 +12,7 @@ use lib.IntN.{ℤ}
 use lib.ListN.{length, getD, set, take, drop, length-append, length-set, length-map, length-take, length-drop}
 use Rattle.rules.specs.Lists.{all, keep, first, without, All}
 use Rattle.rules.specs.Names.{Name, partition, key, NameInRange, keyInRange, bit, withBit, defaultPartition, defaultKey}
-use Rattle.rules.specs.Fields.{Field, message, name, wildcard, bad, field, putField, nameIn, namesIn}
+use Rattle.rules.specs.Fields.{Field, message, name, wildcard, atLeast, atMost, bad, field, putField, nameIn, namesIn}
 use Rattle.rules.specs.Matching.{Pair, storedPair, Entry, Op, reading, taking, matches}
 use Rattle.rules.specs.State.{State, give, giveAll, withEntries, wrote, live, limitOf}
 use Rattle.rules.specs.Calls.{Call, put, seek, partyOf, firstThatApplies, badPair, putTable, seekTable, table}
@@ -90,6 +90,8 @@ field-ok : (w : ℕ) (f : Field) → field w ≡ f → All NameInRange (nameIn f
 field-ok w (message v) e = tt
 field-ok w (name n) e = (name-words w n .0 e .1, tt)
 field-ok w wildcard e = tt
+field-ok w (atLeast v) e = tt
+field-ok w (atMost v) e = tt
 field-ok w bad e = tt
 
 pub namesIn-ok : (ws : List ℕ) → All NameInRange (namesIn ws)

@@ -4,8 +4,10 @@ use mathlib.Core.Logic.{_⊎_, inl, inr, _≢_}
 use mathlib.Core.Bool.{Bool, true, false, not, _&&_, _||_, cond, false≢true, true≢false}
 use mathlib.Core.Option.{none, some}
 use mathlib.Core.List.{List, [], _∷_, _++_}
-use Prim.Native.Nat.{ℕ}
+use Prim.Native.Nat.{ℕ, zero, suc, _<_}
+use native.Mathlib.Nat.{not-suc-le-zero, le-of-suc-le-suc}
 use native.Mathlib.Omega.{arith}
+use lib.ListN.{length, getD}
 use Rattle.rules.specs.Lists.{all, keep, first, without, All}
 use Rattle.rules.specs.Calls.{Table, firstThatApplies}
 
@@ -137,3 +139,9 @@ module _ {A : Type 0} where
       go (inl t) v r = rw (t, r) refl
       go (inr t) (inl u) r = clash (own x) (f x u) t
       go (inr t) (inr u) r = rw (t, u) r
+
+-- what is so of every word of a list is so of the one in that place
+pub All-at : (P : ℕ → Type 0) (l : List ℕ) → All P l → (i : ℕ) → i < length l → P (getD l i 0)
+All-at P [] h i b = absurd (not-suc-le-zero b)
+All-at P (x ∷ l) h zero b = h .0
+All-at P (x ∷ l) h (suc i) b = All-at P l (h .1) i (le-of-suc-le-suc b)

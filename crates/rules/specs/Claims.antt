@@ -4,12 +4,12 @@ use mathlib.Core.Logic.{_⊎_, _≢_}
 use mathlib.Core.Bool.{true, false}
 use mathlib.Core.Option.{none}
 use mathlib.Core.List.{List, [], _∷_, _++_, map}
-use Prim.Native.Nat.{ℕ, suc, _+_, _≤_, _<_}
+use Prim.Native.Nat.{ℕ, suc, _+_, _*_, _≤_, _<_}
 use lib.IntN.{ℤ}
 use lib.ListN.{length, getD, take, drop}
 use Rattle.rules.specs.Lists.{all, keep, All, In}
 use Rattle.rules.specs.Names.{Name, partition, key, NameInRange, keyInRange, coKey, stored, coStored, defaultPartition, defaultKey, heldIn}
-use Rattle.rules.specs.Fields.{name, field, nameWord, putField, namesIn, fieldAgrees}
+use Rattle.rules.specs.Fields.{message, name, wildcard, field, nameWord, isBound, putField, namesIn, fieldAgrees}
 use Rattle.rules.specs.Matching.{Pair, storedPair, Entry, Op, reading, taking, pairFor, matches}
 use Rattle.rules.specs.State.{holds, live, wrote}
 use Rattle.rules.specs.Calls.{Call, put, seek, done, found, nothing, refused, Table, firstThatApplies, badCount, badPair, putNames}
@@ -68,15 +68,34 @@ Passes ws c = firstThatApplies (refusals ws c) ≡ none
 abbrev pub NameWords : Type 0
 NameWords = (w : ℕ) (n : Name) → Iff (field w ≡ name n) ((w ≡ nameWord n) × NameInRange n)
 
--- M1 to M4, clause by clause
-pub record Matches (op : Op) (p : Pair ℕ) (t : List ℕ) (e : Entry) : Type 0 where
+-- F1, F2: a field word is that of a message exactly if it is the message, which has 32 bits
+abbrev pub MessageWords : Type 0
+MessageWords = (w v : ℕ) → Iff (field w ≡ message v) ((w ≡ v) × (v < 4294967296))
+
+-- M2: a bound, the word of kind 4 or 5 and a value, agrees exactly with the messages in its range
+pub record BoundAgrees (v f : ℕ) : Type 0 where
+  pub atLeast : Iff (fieldAgrees (4 * 4294967296 + v) f ≡ true) ((field f ≡ message f) × (v ≤ f))
+  pub atMost : Iff (fieldAgrees (5 * 4294967296 + v) f ≡ true) ((field f ≡ message f) × (f ≤ v))
+
+abbrev pub BoundsAgree : Type 0
+BoundsAgree = (v f : ℕ) → v < 4294967296 → BoundAgrees v f
+
+-- M1 to M4, clause by clause; what it is for a template's field to agree with an entry's is left open
+pub record Matches (Agree : ℕ → ℕ → Type 0) (op : Op) (p : Pair ℕ) (t : List ℕ) (e : Entry) : Type 0 where
   pub counts : length t ≡ length (e .fields)
-  pub fields : (i : ℕ) → i < length t → fieldAgrees (getD t i 0) (getD (e .fields) i 0) ≡ true
+  pub fields : (i : ℕ) → i < length t → Agree (getD t i 0) (getD (e .fields) i 0)
   pub partitions : pairFor op e .partition ≡ p .partition
   pub keys : coStored (pairFor op e .key) ≡ p .key
 
 abbrev pub MatchingRule : Type 0
-MatchingRule = (op : Op) (p : Pair ℕ) (t : List ℕ) (e : Entry) → Iff (matches op p t e ≡ true) (Matches op p t e)
+MatchingRule =
+    (op : Op) (p : Pair ℕ) (t : List ℕ) (e : Entry) → Iff (matches op p t e ≡ true) (Matches (λ t f. fieldAgrees t f ≡ true) op p t e)
+
+-- M2: where a template has no bounds, each of its fields has to be the wildcard or the entry's very word
+abbrev pub MatchingWithoutBounds : Type 0
+MatchingWithoutBounds =
+    (op : Op) (p : Pair ℕ) (t : List ℕ) (e : Entry) → All (λ w. isBound (field w) ≡ false) t
+    → Iff (matches op p t e ≡ true) (Matches (λ t f. (field t ≡ wildcard) ⊎ (t ≡ f)) op p t e)
 
 -- the stored co-key is the co-key, stored
 abbrev pub StoredCoKey : Type 0

@@ -14,13 +14,13 @@ use lib.ListN.{length, getD, drop, drop-of-length-le}
 use lib.Seq.{drop-cons}
 use Rattle.rules.specs.Lists.{all}
 use Rattle.rules.proofs.ListLaws.{bool, and-left}
-use Rattle.text.specs.Numbers.{isDigit, valueFrom, startsWell, natural, atMost, naturalUpTo}
+use Rattle.text.specs.Numbers.{isDigit, valueFrom, startsWell, natural, upTo, naturalUpTo}
 use Rattle.text.specs.Answers.{numberOf}
 use Rattle.text.specs.declared.Number.the-variants.{Value, Unreadable}
 
 -- what the bytes come to after digits of value v
 unfoldable pub readOn : ℕ → ℕ → List ℕ → Option ℕ
-readOn most v bs = atMost most (cond (all isDigit bs) (some (valueFrom v bs)) none)
+readOn most v bs = upTo most (cond (all isDigit bs) (some (valueFrom v bs)) none)
 
 pub starts : (most : ℕ) (bs : List ℕ) → startsWell bs ≡ true → naturalUpTo most bs ≡ readOn most 0 bs
 unfolding naturalUpTo readOn
@@ -38,7 +38,7 @@ pub too-much : (most v : ℕ) (bs : List ℕ) → most < v → readOn most v bs 
 unfolding readOn
 too-much most v bs h = go (all isDigit bs)
   where
-    go : (b : Bool) → atMost most (cond b (some (valueFrom v bs)) none) ≡ none
+    go : (b : Bool) → upTo most (cond b (some (valueFrom v bs)) none) ≡ none
     go true = let g = grows v bs in rw (lt-leb (valueFrom v bs) most (omega arith))
     go false = refl
 
@@ -75,7 +75,7 @@ pub up-to-le : (most : ℕ) (bs : List ℕ) (v : ℕ) → naturalUpTo most bs �
 unfolding naturalUpTo
 up-to-le most bs v e = of-option (natural bs) e
   where
-    of-test : (w : ℕ) → (leb w most ≡ true) ⊎ (leb w most ≡ false) → atMost most (some w) ≡ some v → v ≤ most
+    of-test : (w : ℕ) → (leb w most ≡ true) ⊎ (leb w most ≡ false) → upTo most (some w) ≡ some v → v ≤ most
     of-test w (inl h) q =
         let q′ : some w ≡ some v = rw h at q in
         let same : w ≡ v = cc in
@@ -84,6 +84,6 @@ up-to-le most bs v e = of-option (natural bs) e
         let q′ : none ≡ some v = rw h at q in
         let z : _≡_ {A = ℕ} 0 1 = cc in absurd (omega arith)
 
-    of-option : (o : Option ℕ) → atMost most o ≡ some v → v ≤ most
+    of-option : (o : Option ℕ) → upTo most o ≡ some v → v ≤ most
     of-option none q = let z : _≡_ {A = ℕ} 0 1 = cc in absurd (omega arith)
     of-option (some w) q = of-test w (bool (leb w most)) q

@@ -11,7 +11,6 @@ use lib.IntN.{ℤ}
 use lib.ListN.{length, getD, take, drop}
 use lib.Seq.{take-all}
 use Rattle.rules.specs.Names.{keyInRange, stored}
-use Rattle.text.specs.Numbers.{unsigned, signed}
 use Rattle.text.specs.Fields.{ofKind, storedIn, readField, isDash}
 use Rattle.text.specs.Answers.{numberOf, signedOf, wordOf, valueIn, keyIn}
 use Rattle.text.specs.declared.Number.{Number}
@@ -46,30 +45,21 @@ no-byte [] h = refl
 no-byte (b ∷ bs) h = absurd (omega arith)
 
 module _ (t : List ℕ) (h : length t ≡ 0 → ⊥) where
-  by-first : (b : ℕ) → getD t 0 0 ≡ b → readField t ≡ readField (b ∷ take (length t - 1) (drop 1 t))
+  -- the text as a byte that is known and the rest
+  pub by-first : (b : ℕ) → getD t 0 0 ≡ b → readField t ≡ readField (b ∷ take (length t - 1) (drop 1 t))
   by-first b e = ap readField (split t h) ∙ ap (λ (x : ℕ). readField (x ∷ take (length t - 1) (drop 1 t))) e
     where
       split : (s : List ℕ) → (length s ≡ 0 → ⊥) → s ≡ getD s 0 0 ∷ take (length s - 1) (drop 1 s)
       split [] n = absurd (n refl)
       split (c ∷ cs) n = ap (λ (l : List ℕ). c ∷ l) (sym (take-all (length (c ∷ cs) - 1) cs (omega arith)))
 
-  pub message-first : getD t 0 0 ≡ 109 → readField t ≡ ofKind 0 (unsigned (take (length t - 1) (drop 1 t)))
+  pub other-first : (getD t 0 0 ≡ 109 → ⊥) → (getD t 0 0 ≡ 112 → ⊥) → (getD t 0 0 ≡ 107 → ⊥)
+      → (getD t 0 0 ≡ 42 → ⊥) → (getD t 0 0 ≡ 103 → ⊥) → (getD t 0 0 ≡ 108 → ⊥)
+      → readField t ≡ none
   unfolding readField
-  message-first e = by-first 109 e
-
-  pub partition-first : getD t 0 0 ≡ 112 → readField t ≡ ofKind 1 (unsigned (take (length t - 1) (drop 1 t)))
-  unfolding readField
-  partition-first e = by-first 112 e
-
-  pub key-first : getD t 0 0 ≡ 107 → readField t ≡ ofKind 2 (storedIn (signed (take (length t - 1) (drop 1 t))))
-  unfolding readField
-  key-first e = by-first 107 e
-
-  pub other-first : (getD t 0 0 ≡ 109 → ⊥) → (getD t 0 0 ≡ 112 → ⊥) → (getD t 0 0 ≡ 107 → ⊥) → (getD t 0 0 ≡ 42 → ⊥) → readField t ≡ none
-  unfolding readField
-  other-first m p k w =
+  other-first m p k w g l =
       let b = getD t 0 0 in
-      by-first b refl ∙ rw (ne-eqb b 109 m, ne-eqb b 112 p, ne-eqb b 107 k, ne-eqb b 42 w)
+      by-first b refl ∙ rw (ne-eqb b 109 m, ne-eqb b 112 p, ne-eqb b 107 k, ne-eqb b 42 w, ne-eqb b 103 g, ne-eqb b 108 l)
 
 pub wildcard-alone : (t : List ℕ) → getD t 0 0 ≡ 42 → length t ≡ 1 → readField t ≡ some 12884901888
 unfolding readField

@@ -7,14 +7,15 @@ use mathlib.Core.List.{List, [], _∷_, _++_, map, append-nil}
 use mathlib.Core.Option.{some}
 use native.Mathlib.Nat.{div-add-mod'}
 use native.Mathlib.Omega.{arith}
-use borrow.Author.Tests.{not-true, le-leb, ne-eqb, le-ltb, ltb-true, ltb-false, eqb-true}
+use borrow.Author.Tests.{not-true, le-leb, ne-eqb, le-ltb, ltb-true, ltb-false}
 use lib.Dec.{eqb, ltb}
 use lib.IntN.{ℤ, pos, negsuc}
 use lib.ListN.{length}
 use Rattle.rules.specs.Lists.{all}
 use Rattle.rules.specs.Names.{partition, key, keyInRange, stored}
-use Rattle.rules.specs.Fields.{Field, message, name, wildcard, bad, fieldOf, field, isData, isWildcard, templateField}
+use Rattle.rules.specs.Fields.{Field, message, name, wildcard, atLeast, atMost, bad, fieldOf, field, isData, isWildcard, isBound, templateField}
 use Rattle.rules.proofs.ListLaws.{bool, clash, and-left, and-right}
+use Rattle.rules.proofs.FieldLaws.{by-kind}
 use Rattle.text.specs.Numbers.{isDigit, decimal, decimalKey}
 use Rattle.text.specs.Fields.{ofKind, readField, keyOf, rendered, renderField}
 use Rattle.text.specs.Fields.{before, beyond, parts, both, readEach, upToSixteen, isDash, readFields, renderMore, renderFields}
@@ -33,16 +34,7 @@ key-of s h = go (bool (ltb s 31))
     go (inr e) = let l = ltb-false s 31 e in rw e (le-leb (s - 31) 31 (omega arith), (omega arith))
 
 abbrev allowed : Field → Bool
-allowed f = isData f || isWildcard f
-
--- by kind
-message-back : (v : ℕ) → v < 4294967296 → readField (rendered (message v)) ≡ some (0 * 4294967296 + v)
-unfolding readField
-message-back v h = ap (ofKind 0) (number-back 4294967295 v (omega arith))
-
-partition-back : (v : ℕ) → v < 64 → readField (rendered (name (partition v))) ≡ some (1 * 4294967296 + v)
-unfolding readField
-partition-back v h = ap (ofKind 1) (number-back 4294967295 v (omega arith))
+allowed f = isData f || (isWildcard f || isBound f)
 
 stored-back : (s : ℕ) → s < 63 → readField (rendered (name (key s))) ≡ some (2 * 4294967296 + s)
 unfolding readField
@@ -50,39 +42,19 @@ stored-back s h =
     let k = key-of s h in
     rw (key-back (keyOf s) (k .0)) (rw (k .0, k .1))
 
-module _ (v : ℕ) where
-  partitions-back : allowed (fieldOf 1 v) ≡ true → readField (rendered (fieldOf 1 v)) ≡ some (1 * 4294967296 + v)
-  partitions-back h = go (bool (ltb v 64))
-    where
-      go : (ltb v 64 ≡ true) ⊎ (ltb v 64 ≡ false) → readField (rendered (fieldOf 1 v)) ≡ some (1 * 4294967296 + v)
-      go (inl e) = rw e (partition-back v (ltb-true v 64 e))
-      go (inr e) = let h′ : false ≡ true = rw e at h in clash false h′ refl
-
-  keys-back : allowed (fieldOf 2 v) ≡ true → readField (rendered (fieldOf 2 v)) ≡ some (2 * 4294967296 + v)
-  keys-back h = go (bool (ltb v 63))
-    where
-      go : (ltb v 63 ≡ true) ⊎ (ltb v 63 ≡ false) → readField (rendered (fieldOf 2 v)) ≡ some (2 * 4294967296 + v)
-      go (inl e) = rw e (stored-back v (ltb-true v 63 e))
-      go (inr e) = let h′ : false ≡ true = rw e at h in clash false h′ refl
-
-  wildcard-back : allowed (fieldOf 3 v) ≡ true → readField (rendered (fieldOf 3 v)) ≡ some (3 * 4294967296 + v)
-  unfolding readField
-  wildcard-back h = go (bool (eqb v 0))
-    where
-      go : (eqb v 0 ≡ true) ⊎ (eqb v 0 ≡ false) → readField (rendered (fieldOf 3 v)) ≡ some (3 * 4294967296 + v)
-      go (inl e) = rw (eqb-true v 0 e)
-      go (inr e) = let h′ : false ≡ true = rw e at h in clash false h′ refl
-
+-- by kind: what a template may carry
 kind-back : (k v : ℕ) → v < 4294967296 → allowed (fieldOf k v) ≡ true → readField (rendered (fieldOf k v)) ≡ some (k * 4294967296 + v)
-kind-back k v l h = go (bool (eqb k 0)) (bool (eqb k 1)) (bool (eqb k 2)) (bool (eqb k 3))
-  where
-    go : (eqb k 0 ≡ true) ⊎ (eqb k 0 ≡ false) → (eqb k 1 ≡ true) ⊎ (eqb k 1 ≡ false) → (eqb k 2 ≡ true) ⊎ (eqb k 2 ≡ false)
-        → (eqb k 3 ≡ true) ⊎ (eqb k 3 ≡ false) → readField (rendered (fieldOf k v)) ≡ some (k * 4294967296 + v)
-    go (inl a) b c d = rw (eqb-true k 0 a) (message-back v l)
-    go (inr a) (inl b) c d = let e = eqb-true k 1 b in rw e (partitions-back v (rw e at h))
-    go (inr a) (inr b) (inl c) d = let e = eqb-true k 2 c in rw e (keys-back v (rw e at h))
-    go (inr a) (inr b) (inr c) (inl d) = let e = eqb-true k 3 d in rw e (wildcard-back v (rw e at h))
-    go (inr a) (inr b) (inr c) (inr d) = let h′ : false ≡ true = rw (a, b, c, d) at h in clash false h′ refl
+unfolding readField
+kind-back k v h =
+    let number = number-back 4294967295 v (omega arith) in
+    by-kind (λ f. allowed f ≡ true → readField (rendered f) ≡ some (k * 4294967296 + v)) k v
+    (λ e a. rw e (ap (ofKind 0) number))
+    (λ e r a. rw e (ap (ofKind 1) number))
+    (λ e r a. rw e (stored-back v r))
+    (λ e r a. rw (e, r))
+    (λ e a. rw e (ap (ofKind 4) number))
+    (λ e a. rw e (ap (ofKind 5) number))
+    (λ a. clash false a refl)
 
 pub field-back : (w : ℕ) → templateField w ≡ true → readField (renderField w) ≡ some w
 unfolding templateField field renderField
@@ -113,6 +85,8 @@ rendered-free (message v) = decimal-free v
 rendered-free (name (partition c)) = decimal-free c
 rendered-free (name (key s)) = key-free (keyOf s)
 rendered-free wildcard = refl
+rendered-free (atLeast v) = decimal-free v
+rendered-free (atMost v) = decimal-free v
 rendered-free bad = refl
 
 field-free : (w : ℕ) → all free (renderField w) ≡ true
@@ -163,6 +137,8 @@ field-undashed (message v) more = undashed 109 (decimal v ++ more) refl
 field-undashed (name (partition c)) more = undashed 112 (decimal c ++ more) refl
 field-undashed (name (key s)) more = undashed 107 (decimalKey (keyOf s) ++ more) refl
 field-undashed wildcard more = undashed 42 more refl
+field-undashed (atLeast v) more = undashed 103 (decimal v ++ more) refl
+field-undashed (atMost v) more = undashed 108 (decimal v ++ more) refl
 field-undashed bad more = undashed 63 more refl
 
 pub rendered-reads-back : RenderedReadsBack

@@ -2,16 +2,16 @@
 use Prim.Native.Nat.{ℕ, zero, suc, _+_, _-_, _*_, _/_, _%_, _^_, _≤_, _<_}
 use mathlib.Core.Path.{_≡_}
 use mathlib.Core.Logic.{_⊎_, inl, inr}
-use mathlib.Core.Bool.{Bool, true, false, cond}
+use mathlib.Core.Bool.{true, false}
 use mathlib.Core.List.{List, [], _∷_, _++_}
 use native.Mathlib.Nat.{pow-succ'}
 use native.Mathlib.Omega.{arith}
 use borrow.Author.Tests.{ltb-true, ltb-false}
-use lib.Dec.{eqb, ltb}
+use lib.Dec.{ltb}
 use lib.ListN.{length, length-append}
-use Rattle.rules.specs.Names.{partition, key}
-use Rattle.rules.specs.Fields.{message, name, wildcard, bad, fieldOf, field}
+use Rattle.rules.specs.Fields.{fieldOf, field}
 use Rattle.rules.proofs.ListLaws.{bool}
+use Rattle.rules.proofs.FieldLaws.{by-kind}
 use Rattle.text.specs.Numbers.{decimal, decimalKey}
 use Rattle.text.specs.Fields.{keyOf, rendered, renderField, renderMore, renderFields}
 use Rattle.text.proofs.Decimal.{decimal-small, more-length}
@@ -37,27 +37,16 @@ key-short s h = go (bool (ltb s 31))
     go (inr e) = let l = decimal-short 1 (s - 31) (omega arith) in rw (key-up s (ltb-false s 31 e)) (omega arith)
 
 kind-short : (k v : ℕ) → v < 4294967296 → length (rendered (fieldOf k v)) ≤ 11
-kind-short k v h = go (eqb k 0) (eqb k 1) (ltb v 64) (eqb k 2) (bool (ltb v 63)) (eqb k 3) (eqb v 0)
-  where
-    decimals : length (decimal v) ≤ 10
-    decimals = decimal-short 9 v (omega arith)
-
-    keys : (ltb v 63 ≡ true) ⊎ (ltb v 63 ≡ false) → length (rendered (cond (ltb v 63) (name (key v)) bad)) ≤ 11
-    keys (inl t) = let l = key-short v (ltb-true v 63 t) in rw t (omega arith)
-    keys (inr t) = rw t (omega arith)
-
-    go : (a b c d : Bool) → (ltb v 63 ≡ true) ⊎ (ltb v 63 ≡ false) → (e f : Bool)
-        → length (rendered (cond a (message v)
-        (cond b (cond c (name (partition v)) bad)
-        (cond d (cond (ltb v 63) (name (key v)) bad)
-        (cond e (cond f wildcard bad) bad))))) ≤ 11
-    go true b c d t e f = let l = decimals in omega arith
-    go false true true d t e f = let l = decimals in omega arith
-    go false true false d t e f = omega arith
-    go false false c true t e f = keys t
-    go false false c false t true true = omega arith
-    go false false c false t true false = omega arith
-    go false false c false t false f = omega arith
+kind-short k v h =
+    let l = decimal-short 9 v (omega arith) in
+    by-kind (λ f. length (rendered f) ≤ 11) k v
+    (λ e. omega arith)
+    (λ e r. omega arith)
+    (λ e r. let s = key-short v r in omega arith)
+    (λ e r. omega arith)
+    (λ e. omega arith)
+    (λ e. omega arith)
+    (omega arith)
 
 pub field-short : (w : ℕ) → length (renderField w) ≤ 11
 unfolding renderField field

@@ -7,7 +7,7 @@ use lib.Dec.{eqb, leb}
 use lib.IntN.{ℤ, pos, _-ℤ_}
 use lib.ListN.{length, take, drop}
 use Rattle.rules.specs.Names.{keyInRange, stored, partition, key}
-use Rattle.rules.specs.Fields.{Field, message, name, wildcard, bad, field}
+use Rattle.rules.specs.Fields.{Field, message, name, wildcard, atLeast, atMost, bad, field}
 use Rattle.text.specs.Numbers.{unsigned, signed, decimal, decimalKey}
 
 -- ---- one field
@@ -27,7 +27,7 @@ abbrev pub wildcardBefore : List ℕ → Option ℕ
 wildcardBefore [] = some 12884901888
 wildcardBefore (b ∷ bs) = none
 
--- T6: `m` (109) or `p` (112) and an unsigned number, `k` (107) and a key, or `*` (42)
+-- T6: `m` (109), `p` (112), `g` (103) or `l` (108) and an unsigned number, `k` (107) and a key, or `*` (42)
 unfoldable pub readField : List ℕ → Option ℕ
 readField [] = none
 readField (b ∷ bs) =
@@ -35,7 +35,9 @@ readField (b ∷ bs) =
     (cond (eqb b 112) (ofKind 1 (unsigned bs))
     (cond (eqb b 107) (ofKind 2 (storedIn (signed bs)))
     (cond (eqb b 42) (wildcardBefore bs)
-    none)))
+    (cond (eqb b 103) (ofKind 4 (unsigned bs))
+    (cond (eqb b 108) (ofKind 5 (unsigned bs))
+    none)))))
 
 -- N5: the key that is stored as s
 abbrev pub keyOf : ℕ → ℤ
@@ -47,6 +49,8 @@ rendered (message v) = 109 ∷ decimal v
 rendered (name (partition c)) = 112 ∷ decimal c
 rendered (name (key s)) = 107 ∷ decimalKey (keyOf s)
 rendered wildcard = 42 ∷ []
+rendered (atLeast v) = 103 ∷ decimal v
+rendered (atMost v) = 108 ∷ decimal v
 rendered bad = 63 ∷ []
 
 -- T6

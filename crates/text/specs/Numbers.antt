@@ -30,13 +30,13 @@ startsWell (b ∷ c ∷ bs) = not (eqb b 48)
 abbrev pub natural : List ℕ → Option ℕ
 natural bs = cond (startsWell bs && all isDigit bs) (some (valueOf bs)) none
 
-abbrev pub atMost : ℕ → Option ℕ → Option ℕ
-atMost most none = none
-atMost most (some v) = cond (leb v most) (some v) none
+abbrev pub upTo : ℕ → Option ℕ → Option ℕ
+upTo most none = none
+upTo most (some v) = cond (leb v most) (some v) none
 
 -- T2: a natural number of at most `most`
 unfoldable pub naturalUpTo : ℕ → List ℕ → Option ℕ
-naturalUpTo most bs = atMost most (natural bs)
+naturalUpTo most bs = upTo most (natural bs)
 
 -- T3: an unsigned number fits 32 bits
 abbrev pub unsigned : List ℕ → Option ℕ

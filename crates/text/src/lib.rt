@@ -122,13 +122,15 @@ pub fn read_field(text: &[u8]) -> Word
         } else {
             Word::Unreadable
         },
+        103 => of_kind(4, read_unsigned(&text[1..])),
+        108 => of_kind(5, read_unsigned(&text[1..])),
         _ => Word::Unreadable,
     }
 }
 
 // F1
 fn of_kind(kind: u64, value: Number) -> Word
-    requires { ⌜ kind ≤ 3 ⌝ }
+    requires { ⌜ kind ≤ 5 ⌝ }
     ensures { λ r. ⌜ r ≡ wordOf (ofKind kind (valueIn value)) ⌝ }
 {
     let Number::Value(v) = value else {
@@ -248,6 +250,14 @@ pub fn render_field(w: u64, out: &mut [u8], at: usize) -> usize
         Field::Wildcard => {
             out[at] = 42;
             at + 1
+        }
+        Field::AtLeast(v) => {
+            out[at] = 103;
+            render_decimal(v, out, at + 1)
+        }
+        Field::AtMost(v) => {
+            out[at] = 108;
+            render_decimal(v, out, at + 1)
         }
         Field::Bad => {
             out[at] = 63;

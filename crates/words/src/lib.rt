@@ -5,7 +5,7 @@ ghost use Prim.Native.Nat.{_<_};
 ghost use Rattle.rules.specs.Lists.{all};
 ghost use Rattle.rules.specs.Names.{bit, withBit, heldIn, keyInRange, coKey, stored};
 ghost use Rattle.rules.specs.Fields.{field, putField, templateField, nameIn, fieldAgrees};
-ghost use Rattle.words.specs.Kind.{meant};
+ghost use Rattle.words.specs.Kind.{meant, plain};
 
 // What a field word is.
 pub enum Field {
@@ -13,6 +13,8 @@ pub enum Field {
     Partition(u64),
     Key(u64),
     Wildcard,
+    AtLeast(u64),
+    AtMost(u64),
     Bad,
 }
 
@@ -39,6 +41,8 @@ pub fn field_of(w: u64) -> Field
         } else {
             Field::Bad
         },
+        4 => Field::AtLeast(value),
+        5 => Field::AtMost(value),
         _ => Field::Bad,
     }
 }
@@ -53,6 +57,8 @@ pub fn put_field(w: u64) -> bool
         Field::Partition(_) => true,
         Field::Key(_) => true,
         Field::Wildcard => false,
+        Field::AtLeast(_) => false,
+        Field::AtMost(_) => false,
         Field::Bad => false,
     }
 }
@@ -67,6 +73,8 @@ pub fn template_field(w: u64) -> bool
         Field::Partition(_) => true,
         Field::Key(_) => true,
         Field::Wildcard => true,
+        Field::AtLeast(_) => true,
+        Field::AtMost(_) => true,
         Field::Bad => false,
     }
 }
@@ -81,15 +89,37 @@ pub fn field_held(partitions: u64, keys: u64, w: u64) -> bool
         Field::Partition(c) => has_bit(partitions, c),
         Field::Key(k) => has_bit(keys, k),
         Field::Wildcard => true,
+        Field::AtLeast(_) => true,
+        Field::AtMost(_) => true,
         Field::Bad => true,
     }
 }
 
-// M2: the wildcard's word is 3 × 2^32.
+// M2
 pub fn field_agrees(t: u64, f: u64) -> bool
     ensures { λ r. ⌜ r ≡ fieldAgrees t f ⌝ }
 {
-    (t == 12884901888) | (t == f)
+    if t <= 12884901888 {
+        return plain_agrees(t, f);
+    }
+    let kind = field_of(t);
+    match kind {
+        Field::Message(_) => t == f,
+        Field::Partition(_) => t == f,
+        Field::Key(_) => t == f,
+        Field::Wildcard => true,
+        Field::AtLeast(v) => (v <= f) & (f < 4294967296),
+        Field::AtMost(v) => f <= v,
+        Field::Bad => t == f,
+    }
+}
+
+// M2 for a word up to the wildcard's, 3 × 2^32, which is no bound. The first comparison needs only the upper half.
+pub fn plain_agrees(t: u64, f: u64) -> bool
+    requires { ⌜ plain t ≡ true ⌝ }
+    ensures { λ r. ⌜ r ≡ fieldAgrees t f ⌝ }
+{
+    (12884901888 <= t) | (t == f)
 }
 
 // L2: no word has a bit past 63.

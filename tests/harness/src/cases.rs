@@ -1,4 +1,5 @@
-//! The rules' cases and the examples of their refusals, with answers and words written by hand.
+//! The rules' cases, the examples of their refusals and a case of bounds, with answers and words
+//! written by hand.
 
 use crate::call::{answer_text, Call, Query};
 use crate::report::Report;
@@ -8,6 +9,11 @@ use reference::Pair;
 const WILDCARD: u64 = 12_884_901_888;
 const PARTITION_5: u64 = 4_294_967_301;
 const KEY_4: u64 = 8_589_934_627;
+/// The words of the kinds 4 to 6 with the number 0.
+const AT_LEAST: u64 = 17_179_869_184;
+const AT_MOST: u64 = 21_474_836_480;
+const KIND_6: u64 = 25_769_803_776;
+const LAST_MESSAGE: u64 = 4_294_967_295;
 const REFUSED: u32 = 100;
 
 const fn pair(partition: u32, key: i32) -> Pair {
@@ -115,6 +121,41 @@ fn cases() -> Vec<(&'static str, Vec<Step>)> {
     ]
 }
 
+/// Picks by bounds, from the same opening: entries of messages, then entries of names.
+fn bounds() -> Vec<Step> {
+    let there = pair(5, -4);
+    let pick = |words: &[u64], fields: &[u64]| finds(read(1, there, words), fields);
+    let miss = |words: &[u64]| step(read(1, there, words), 0);
+    vec![
+        step(put(0, pair(5, 4), &[7, 100]), 0),
+        step(put(0, pair(5, 4), &[7, 200]), 0),
+        step(put(0, pair(5, 4), &[7, LAST_MESSAGE]), 0),
+        pick(&[7, AT_LEAST], &[7, 100]),
+        pick(&[7, AT_LEAST + 100], &[7, 100]),
+        pick(&[7, AT_LEAST + 101], &[7, 200]),
+        pick(&[7, AT_LEAST + LAST_MESSAGE], &[7, LAST_MESSAGE]),
+        miss(&[7, AT_MOST]),
+        miss(&[7, AT_MOST + 99]),
+        pick(&[7, AT_MOST + 100], &[7, 100]),
+        pick(&[AT_LEAST + 7, AT_MOST + LAST_MESSAGE], &[7, 100]),
+        miss(&[AT_LEAST + 8, AT_MOST + LAST_MESSAGE]),
+        finds(take(1, there, &[AT_MOST + 7, AT_LEAST + 200]), &[7, 200]),
+        pick(&[7, AT_LEAST + 101], &[7, LAST_MESSAGE]),
+        step(put(0, pair(5, 4), &[7, AT_LEAST + 7]), REFUSED + 5),
+        step(put(0, pair(5, 4), &[AT_MOST + 7, 7]), REFUSED + 5),
+        step(read(1, there, &[7, KIND_6]), REFUSED + 5),
+        step(put(0, pair(0, 0), &[PARTITION_5]), 0),
+        step(put(0, pair(0, 0), &[KEY_4]), 0),
+        step(read(1, pair(0, 0), &[AT_LEAST]), 0),
+        step(take(1, pair(0, 0), &[AT_MOST + LAST_MESSAGE]), 0),
+        finds(take(1, pair(0, 0), &[WILDCARD]), &[PARTITION_5]),
+        finds(take(1, pair(0, 0), &[WILDCARD]), &[KEY_4]),
+        // Nobody has to hold anything for a bound: party 2 doesn't hold partition 5.
+        step(read(2, pair(0, 0), &[AT_MOST + 5]), 0),
+        step(read(2, pair(0, 0), &[AT_LEAST + 5]), 0),
+    ]
+}
+
 /// Makes the opening of the rules' cases: partition 5 for both, key 4 for 0 and -4 for 1.
 fn opening(system: &mut dyn Space) -> Vec<u64> {
     let mut roster = [0; 16];
@@ -149,7 +190,7 @@ fn run_case(system: &mut dyn Space, steps: &[Step]) -> Result<String, String> {
 
 /// Runs each case.
 pub fn check(report: &mut Report, who: &str, system: &mut dyn Space) {
-    for (name, steps) in cases() {
+    for (name, steps) in cases().into_iter().chain([("of bounds", bounds())]) {
         let outcome = run_case(system, &steps);
         report.check(&format!("case {name}, {who}"), outcome);
     }

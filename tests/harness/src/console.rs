@@ -3,6 +3,7 @@
 use crate::report::Report;
 use crate::rng::Rng;
 use crate::scripts;
+use reference::console::INPUT_NAMES;
 use std::collections::BTreeMap;
 use std::io::{Read, Write};
 use std::process::{Child, Command, Stdio};
@@ -35,6 +36,19 @@ const SAYINGS: [&str; 14] = [
     "unreadable after calls",
     "unreadable before calls",
     "input too long",
+];
+
+/// What can be said of a line with a bound, and because of it if it is refused or unreadable.
+/// Each must come up as well.
+const BOUND_SAYINGS: [&str; 8] = [
+    "g found",
+    "g none",
+    "g no5",
+    "g unreadable",
+    "l found",
+    "l none",
+    "l no5",
+    "l unreadable",
 ];
 
 /// Inputs of one make.
@@ -162,6 +176,7 @@ pub fn compare(report: &mut Report, program: &str) {
     }
     let missing: Vec<&str> = SAYINGS
         .into_iter()
+        .chain(BOUND_SAYINGS)
         .filter(|saying| !said.contains_key(saying))
         .collect();
     let outcome = match missing.is_empty() {
@@ -199,6 +214,7 @@ fn compare_sort(
             return Err(format!("{place}: {text}"));
         }
         note_sayings(&expected, said);
+        note_bound_sayings(&input, &expected, said);
     }
     Ok(format!("seed {seed}, {} inputs alike", sort.inputs))
 }
@@ -225,6 +241,53 @@ fn note_sayings(output: &[u8], said: &mut BTreeMap<&'static str, u64>) {
         };
         *said.entry(saying).or_default() += 1;
     }
+}
+
+/// Finds for each output line the input line it is about.
+fn note_bound_sayings(input: &[u8], output: &[u8], said: &mut BTreeMap<&'static str, u64>) {
+    let (input, output) = (
+        String::from_utf8_lossy(input),
+        String::from_utf8_lossy(output),
+    );
+    let lines: Vec<&str> = input.split('\n').collect();
+    let mut calls = lines[1..].iter().filter(|line| !line.starts_with("give "));
+    for printed in output.lines().skip(1) {
+        let items: Vec<&str> = printed.split(' ').collect();
+        let (line, answer) = match items[..] {
+            ["line", number, answer] => {
+                let number: usize = number.parse().expect("the number of a line");
+                (lines[number - 1], answer)
+            }
+            [_, answer, _] => (*calls.next().expect("a call for each answer"), answer),
+            _ => continue,
+        };
+        for letter in ["g", "l"] {
+            let saying = format!("{letter} {answer}");
+            let saying = BOUND_SAYINGS.into_iter().find(|known| *known == saying);
+            if let Some(saying) = saying.filter(|_| says_for_bound(line, letter, answer)) {
+                *said.entry(saying).or_default() += 1;
+            }
+        }
+    }
+}
+
+/// Whether the line has a bound of this letter, and whether a refusal goes with it: the line alone
+/// gets this answer, and with a message in the place of the bound it doesn't.
+fn says_for_bound(line: &str, letter: &str, answer: &str) -> bool {
+    let (start, fields) = line.rsplit_once(' ').unwrap_or_default();
+    let others: Vec<&str> = fields
+        .split(',')
+        .map(|field| match field.starts_with(letter) {
+            true => "m0",
+            false => field,
+        })
+        .collect();
+    let without = format!("{start} {}", others.join(","));
+    let alone = |line: &str| {
+        let output = reference::console(format!("{INPUT_NAMES}\n{line}\n").as_bytes());
+        String::from_utf8_lossy(&output).contains(answer)
+    };
+    without != line && (matches!(answer, "found" | "none") || alone(line) && !alone(&without))
 }
 
 /// Runs the program on an input and gives its output.

@@ -1,5 +1,6 @@
 //! The library against the reference, call by call.
 
+use crate::bounds;
 use crate::call::{Call, Kind};
 use crate::duel::{Duel, NAMES_TRAVELLED, ROWS_MOVED, TABLE_FULL};
 use crate::pool::{broken_roster, Maker, Mix, Pool, ALL_PARTIES};
@@ -101,7 +102,8 @@ pub fn compare(report: &mut Report, who: &str, system: &mut dyn Space) {
     }
     let tally = &duel.tally;
     print!("{}", tally.table());
-    let expected = [NAMES_TRAVELLED, ROWS_MOVED, TABLE_FULL];
+    let mut expected = vec![NAMES_TRAVELLED, ROWS_MOVED, TABLE_FULL];
+    expected.extend(bounds::ALL.concat());
     let reached = tally.check(&expected).and_then(|text| {
         if tally.calls() < FEWEST_CALLS {
             return Err(format!("only {} calls", tally.calls()));
@@ -112,7 +114,7 @@ pub fn compare(report: &mut Report, who: &str, system: &mut dyn Space) {
 }
 
 /// Gives the first difference of a wrong system, with the number of calls before it. Only the
-/// part on single damages is of use against a clause of "sound" left out.
+/// part on single damages is of use against a clause of "sound" left out or widened.
 pub fn first_difference(system: &mut dyn Space, in_damage: bool) -> Option<(u64, String)> {
     let mut duel = Duel::new(system);
     let parts = match in_damage {

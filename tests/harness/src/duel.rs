@@ -1,5 +1,6 @@
 //! Makes the same call of a system and of the reference and compares everything afterwards.
 
+use crate::bounds;
 use crate::call::{answer_text, Call, Kind};
 use crate::guarded::Guarded;
 use crate::rng::Rng;
@@ -97,6 +98,9 @@ impl<'a> Duel<'a> {
             return Err(difference_text(call, systems, code, &differences));
         }
         self.tally.count(call, code);
+        for what in bounds::happenings(call, code, self.references.result.lent(), &before.rows) {
+            self.tally.happened(what);
+        }
         self.note_happenings(call.kind(), code, before);
         Ok(code)
     }

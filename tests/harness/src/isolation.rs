@@ -1,6 +1,7 @@
 //! Isolation, run for real: two runs in which a watched group makes the same calls, while others
 //! do as they like out of its grasp, must look the same to the group.
 
+use crate::bounds;
 use crate::call::{answer_text, is_refusal, Call, Kind};
 use crate::pool::{Maker, Mix, Pool, ALL_PARTIES};
 use crate::report::Report;
@@ -295,7 +296,23 @@ const FOREIGN: [(Kind, bool, &str); 5] = [
     (Kind::Take, false, "takes from elsewhere none"),
 ];
 
+/// Unrefused calls with a bound in the template: whether they are the group's and found something.
+const BOUNDED: [(bool, bool, &str); 4] = [
+    (true, true, "bounded calls of the group found"),
+    (true, false, "bounded calls of the group none"),
+    (false, true, "bounded calls from elsewhere found"),
+    (false, false, "bounded calls from elsewhere none"),
+];
+
 impl Counts {
+    fn bounded(&mut self, of_group: bool, code: u32) {
+        for (groups, found, what) in BOUNDED {
+            if of_group == groups && !is_refusal(code) && (code > 0) == found {
+                self.add(what);
+            }
+        }
+    }
+
     fn foreign(&mut self, kind: Kind, code: u32) {
         if is_refusal(code) {
             self.add(FOREIGN_REFUSED);
@@ -349,7 +366,11 @@ impl Twins {
             // What the result held before is free, so it is different in every run.
             let (code, result) = make(system, call, space, rng.word());
             self.check_names(number, index + 1, space)?;
-            if self.group.has(call.party()) {
+            let of_group = self.group.has(call.party());
+            if bounds::is_bounded(call) {
+                counts.bounded(of_group, code);
+            }
+            if of_group {
                 let fields = found_fields(call.kind(), code, &result);
                 counts.add(GROUP_CALLS);
                 if !fields.is_empty() {
@@ -464,12 +485,12 @@ fn isolation(system: &mut dyn Space) -> Result<String, String> {
     for (what, count) in &counts.0 {
         println!("  {what}: {count}");
     }
-    let never = FOREIGN.map(|(_, _, what)| what).into_iter().chain([
-        GROUP_FOUND,
-        ROWS_DIFFER,
-        FOREIGN_REFUSED,
-    ]);
-    for what in never {
+    let expected = FOREIGN
+        .map(|(_, _, what)| what)
+        .into_iter()
+        .chain(BOUNDED.map(|(_, _, what)| what))
+        .chain([GROUP_FOUND, ROWS_DIFFER, FOREIGN_REFUSED]);
+    for what in expected {
         if counts.of(what) == 0 {
             return Err(format!("seed {SEED}: never happened: {what}"));
         }
@@ -518,6 +539,7 @@ pub fn check_variants(report: &mut Report) {
         Variant::DefaultPartitionMatchesAll,
         Variant::WildcardsMatchPartition,
         Variant::GivesCoKeyToo,
+        Variant::BoundedMatchesAllPartitions,
     ] {
         let mut system = Reference::with(variant);
         let outcome = differing_pairs(&mut system, VARIANT_SEED, Premise::Kept);

@@ -7,6 +7,7 @@
 //! console, which are printed as skipped. The library is linked if `SPACE_LIB_DIR` names its
 //! directory when the harness is built.
 
+mod bounds;
 mod call;
 mod cases;
 mod console;

@@ -175,9 +175,13 @@ impl Maker<'_> {
     fn random_query(&self, rng: &mut Rng, space: &[u64]) -> Query {
         let party = rng.pick(self.parties);
         let fields: Vec<u64> = (0..self.pool.count(rng))
-            .map(|_| match rng.percent(60) {
-                true => Field::Wildcard.word(),
-                false => self.held_field(rng, space, party),
+            .map(|_| match rng.below(100) {
+                0..50 => Field::Wildcard.word(),
+                50..65 => {
+                    let field = self.pool.field(rng);
+                    bound_at(rng, field)
+                }
+                _ => self.held_field(rng, space, party),
             })
             .collect();
         Query {
@@ -213,8 +217,12 @@ impl Maker<'_> {
 
     fn template_field(&self, rng: &mut Rng, space: &[u64], party: u32, word: u64) -> u64 {
         let holds = holds_names_of(space, party, word);
+        let message = matches!(Field::from_word(word), Some(Field::Message(_)));
         match rng.below(100) {
-            0..60 => Field::Wildcard.word(),
+            // Few against names, with which no bound agrees.
+            0..4 => bound_at(rng, word),
+            4..30 if message => bound_at(rng, word),
+            4..60 => Field::Wildcard.word(),
             60..63 => self.pool.field(rng),
             63..98 if !holds => Field::Wildcard.word(),
             _ => word,
@@ -280,6 +288,18 @@ fn holds_names_of(space: &[u64], party: u32, word: u64) -> bool {
     holds_pair(space, party, pair)
 }
 
+/// A bound at the number in this word or just beside it, at either end, or anywhere.
+fn bound_at(rng: &mut Rng, word: u64) -> u64 {
+    let at = word as u32;
+    let beside = [at.saturating_sub(1), at.saturating_add(1)];
+    let any = rng.word() as u32;
+    let number = rng.pick(&[at, at, beside[0], beside[1], 0, u32::MAX, any]);
+    match rng.percent(50) {
+        true => Field::AtLeast(number).word(),
+        false => Field::AtMost(number).word(),
+    }
+}
+
 /// Breaks one argument: out of range, at an end of its type, or a name perhaps not held.
 fn break_argument(rng: &mut Rng, call: &mut Call) {
     match rng.below(7) {
@@ -333,6 +353,7 @@ fn break_pair(rng: &mut Rng, call: &mut Call) {
 fn break_field(rng: &mut Rng, call: &mut Call) {
     set_some_field(rng, call, |rng| {
         let any = rng.word();
+        let bound = bound_at(rng, any);
         rng.pick(&[
             Field::Partition(64).word(),
             Field::Partition(u32::MAX).word(),
@@ -341,10 +362,16 @@ fn break_field(rng: &mut Rng, call: &mut Call) {
             Field::Wildcard.word(),
             Field::Wildcard.word() + 1,
             Field::Wildcard.word() | u64::from(u32::MAX),
-            4 << 32,
-            (4 << 32) + 5,
+            // As the wildcard, bad only in a put.
+            bound,
+            bound,
+            6 << 32,
+            (6 << 32) + 5,
+            7 << 32,
+            (256 << 32) + Field::AtMost(5).word(),
             1 << 63,
             (1 << 63) | Field::Partition(0).word(),
+            (1 << 63) | Field::AtLeast(0).word(),
             u64::MAX,
             any,
         ])

@@ -61,7 +61,7 @@ const NASTY_ITEMS: [&str; 50] = [
     "read",
     "take",
 ];
-const NASTY_FIELDS: [&str; 51] = [
+const NASTY_FIELDS: [&str; 76] = [
     "-",
     "",
     "*",
@@ -113,6 +113,31 @@ const NASTY_FIELDS: [&str; 51] = [
     "k2147483648",
     "k-2147483648",
     "k4294967296",
+    "g",
+    "l",
+    "f1",
+    "h1",
+    "G7",
+    "L7",
+    "g:",
+    "l1/",
+    "g0",
+    "l0",
+    "g7",
+    "g00",
+    "l00",
+    "g01",
+    "l01",
+    "g-0",
+    "g-1",
+    "l-1",
+    "g+1",
+    "g4294967295",
+    "l4294967295",
+    "g4294967296",
+    "l4294967296",
+    "g42949672950",
+    "l18446744073709551616",
 ];
 
 /// A readable input: the names line, some gives, some calls. The calls come from the reference's
@@ -264,6 +289,8 @@ fn field_text(word: u64) -> Option<String> {
         2 => key_of_stored(value)
             .filter(|key| key_in_range(*key))
             .map(|key| format!("k{key}")),
+        4 => Some(format!("g{value}")),
+        5 => Some(format!("l{value}")),
         _ if word == Field::Wildcard.word() => Some("*".to_string()),
         _ => None,
     }
@@ -282,7 +309,7 @@ const ITEMS: usize = 7;
 /// The beginnings of lines whose fields are changed.
 const FIELD_LINES: [&str; 3] = ["put 0 5 4 5 4", "read 0 5 4 - -", "take 0 5 4 - -"];
 const SHAPES: [&str; 3] = ["{}", "{},m1", "m1,{}"];
-const LISTED: [&str; 2] = ["m1", "*"];
+const LISTED: [&str; 4] = ["m1", "*", "g1", "l1"];
 const MOST_LISTED: usize = 20;
 
 /// How many inputs `nasty_item` has.
@@ -361,7 +388,7 @@ fn break_fields(rng: &mut Rng, fields: &str) -> String {
         let place = rng.below(fields.len());
         fields[place] = rng.pick(&NASTY_FIELDS);
     } else {
-        let field = rng.pick(&["m1", "*", "k-1", "p5"]);
+        let field = rng.pick(&["m1", "*", "k-1", "p5", "g1", "l1"]);
         fields.resize(rng.between(1, 20), field);
     }
     fields.join(",")
@@ -403,7 +430,7 @@ pub fn noise(rng: &mut Rng) -> Vec<u8> {
         true => format!("{INPUT_NAMES}\n").into_bytes(),
         false => Vec::new(),
     };
-    let alphabet = b"\n \t-,*mpk0123456789 putreadkgivm\n";
+    let alphabet = b"\n \t-,*mpkgl0123456789 putreadkgivm\n";
     for _ in 0..rng.below(200) {
         let any = rng.word() as u8;
         let likely = rng.pick(alphabet);

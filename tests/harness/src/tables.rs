@@ -80,6 +80,8 @@ pub enum Damage {
     FieldKeyHigh,
     FieldWildcard,
     FieldWildcardWithValue,
+    FieldAtLeast,
+    FieldAtMost,
     UnusedField,
     SeventeenRows,
     RowPastLive,
@@ -87,7 +89,7 @@ pub enum Damage {
 }
 
 impl Damage {
-    pub const ALL: [Damage; 22] = [
+    pub const ALL: [Damage; 24] = [
         Damage::LiveAbove128,
         Damage::LiveOneTooMany,
         Damage::LiveOneTooFew,
@@ -106,6 +108,8 @@ impl Damage {
         Damage::FieldKeyHigh,
         Damage::FieldWildcard,
         Damage::FieldWildcardWithValue,
+        Damage::FieldAtLeast,
+        Damage::FieldAtMost,
         Damage::UnusedField,
         Damage::SeventeenRows,
         Damage::RowPastLive,
@@ -131,7 +135,9 @@ impl Damage {
             | Damage::FieldPartitionHigh
             | Damage::FieldKeyHigh
             | Damage::FieldWildcard
-            | Damage::FieldWildcardWithValue => Clause::FieldWords,
+            | Damage::FieldWildcardWithValue
+            | Damage::FieldAtLeast
+            | Damage::FieldAtMost => Clause::FieldWords,
             Damage::UnusedField => Clause::UnusedFieldWords,
             Damage::SeventeenRows => Clause::LimitOfWriter,
             Damage::RowPastLive | Damage::LastWord => Clause::RowsPastLive,
@@ -198,7 +204,7 @@ impl Damage {
             Damage::FieldCountZero => row[FIELD_COUNT..].fill(0),
             Damage::FieldCountHigh => row[FIELD_COUNT] = above(rng, MOST_FIELDS as u64),
             Damage::FieldKindHigh => {
-                let kinds = [4, 5, 256, 257, 1 << 31, u64::from(u32::MAX)];
+                let kinds = [6, 7, 256, 257, 260, 1 << 31, u64::from(u32::MAX)];
                 let low = rng.pick(&[0, 5, 62, u64::from(u32::MAX)]);
                 row[used] = kind_and_more(rng.pick(&kinds), low);
             }
@@ -208,6 +214,8 @@ impl Damage {
             Damage::FieldKeyHigh => row[used] = kind_and_more(2, high_value(rng, LAST_STORED_KEY)),
             Damage::FieldWildcard => row[used] = Field::Wildcard.word(),
             Damage::FieldWildcardWithValue => row[used] = kind_and_more(3, high_value(rng, 0)),
+            Damage::FieldAtLeast => row[used] = Field::AtLeast(bound(rng, row[used])).word(),
+            Damage::FieldAtMost => row[used] = Field::AtMost(bound(rng, row[used])).word(),
             Damage::UnusedField if count < MOST_FIELDS => {
                 row[FIELDS + rng.between(count, MOST_FIELDS - 1)] = nonzero(rng);
             }
@@ -255,6 +263,12 @@ fn above(rng: &mut Rng, last: u64) -> u64 {
 fn high_value(rng: &mut Rng, last: u64) -> u64 {
     let inside = rng.below(last as usize + 1) as u64;
     rng.pick(&[last + 1, 256 + inside, (1 << 31) + inside, u32::MAX.into()])
+}
+
+/// The number of a bound: the one in this word, one of either end, or any.
+fn bound(rng: &mut Rng, word: u64) -> u32 {
+    let any = rng.word() as u32;
+    rng.pick(&[word as u32, 0, u32::MAX, any])
 }
 
 fn nonzero(rng: &mut Rng) -> u64 {

@@ -9,9 +9,10 @@ pub fn check(report: &mut Report) {
     let wrong = Variant::BLUNDERS
         .into_iter()
         .chain(Variant::SLIPS)
+        .chain(Variant::BOUND_SLIPS)
         .chain(Variant::skipped_clauses());
     for variant in wrong {
-        let in_damage = matches!(variant, Variant::Skips(_));
+        let in_damage = variant.is_about_soundness();
         let outcome = match first_difference(&mut Reference::with(variant), in_damage) {
             Some((calls, _)) => Ok(format!("after {calls} calls alike")),
             None => Err("not caught".to_string()),

@@ -3,12 +3,12 @@
 use crate::answer::Answer;
 use crate::names::{
     co_key, key_bit, key_of_stored, may_be_put, partition_bit, stored_key, Field, Pair,
-    MOST_FIELDS, PARTIES,
+    LAST_PARTITION, MOST_FIELDS, PARTIES,
 };
 use crate::table::{
-    has_bit_63, live_rows, row_fields, row_start, rows_of_writer, Clause, FIELDS, FIELD_COUNT,
-    KEYS, LIMIT, LIVE, PARTITIONS, READ_KEY, READ_PARTITION, ROSTER_WORDS, ROW_WORDS, TAKE_KEY,
-    TAKE_PARTITION, WORDS, WRITER,
+    all_field_words, has_bit_63, live_rows, row_fields, row_start, rows_of_writer, Clause, FIELDS,
+    FIELD_COUNT, KEYS, LIMIT, LIVE, PARTITIONS, READ_KEY, READ_PARTITION, ROSTER_WORDS, ROW_WORDS,
+    TAKE_KEY, TAKE_PARTITION, WORDS, WRITER,
 };
 use crate::variant::Variant;
 
@@ -157,7 +157,7 @@ impl Reference {
         if !read.in_range() || !take.in_range() {
             return Some(4);
         }
-        if !fields.iter().all(|word| may_be_put(*word)) {
+        if !fields.iter().all(|word| self.may_be_put(*word)) {
             return Some(5);
         }
         let party = party as usize;
@@ -186,14 +186,20 @@ impl Reference {
         if !pair.in_range() {
             return Some(4);
         }
-        if fields.iter().any(|word| Field::from_word(*word).is_none()) {
+        if fields
+            .iter()
+            .any(|word| self.template_field(*word).is_none())
+        {
             return Some(5);
         }
         if result_len < fields.len() && self.variant != Variant::TestsResultLate {
             return Some(6);
         }
         let party = party as usize;
-        if !holds_pair(space, party, pair) || !holds_names_in(space, party, fields) {
+        if !holds_pair(space, party, pair)
+            || !holds_names_in(space, party, fields)
+            || self.misses_partition(space, party, fields)
+        {
             return Some(7);
         }
         None
@@ -203,7 +209,47 @@ impl Reference {
         Clause::ALL
             .into_iter()
             .filter(|clause| self.variant != Variant::Skips(*clause))
-            .all(|clause| clause.holds(space))
+            .all(|clause| match clause {
+                Clause::FieldWords => all_field_words(space, |word| self.may_be_in_row(word)),
+                _ => clause.holds(space),
+            })
+    }
+
+    fn may_be_put(&self, word: u64) -> bool {
+        match (self.variant, Field::from_word(word)) {
+            (Variant::PutsAtLeast, Some(Field::AtLeast(_))) => true,
+            (Variant::PutsAtMost, Some(Field::AtMost(_))) => true,
+            _ => may_be_put(word),
+        }
+    }
+
+    fn may_be_in_row(&self, word: u64) -> bool {
+        match (self.variant, Field::from_word(word)) {
+            (Variant::AtLeastInRowIsSound, Some(Field::AtLeast(_))) => true,
+            (Variant::AtMostInRowIsSound, Some(Field::AtMost(_))) => true,
+            _ => may_be_put(word),
+        }
+    }
+
+    /// The field that a word of a template stands for.
+    fn template_field(&self, word: u64) -> Option<Field> {
+        match self.variant {
+            Variant::KindSixIsWildcard if word >> 32 == 6 => Some(Field::Wildcard),
+            _ => Field::from_word(word),
+        }
+    }
+
+    /// Whether a slip finds a partition in the template that the party doesn't hold: nobody has
+    /// to hold anything for a bound.
+    fn misses_partition(&self, space: &[u64], party: usize, fields: &[u64]) -> bool {
+        fields
+            .iter()
+            .any(|word| match (self.variant, Field::from_word(*word)) {
+                (Variant::AtMostNamesPartition, Some(Field::AtMost(number))) => {
+                    number <= LAST_PARTITION && !holds_partition(space, party, number)
+                }
+                _ => false,
+            })
     }
 
     /// The row of the oldest match.
@@ -233,15 +279,63 @@ impl Reference {
             _ => (row[READ_PARTITION], row[READ_KEY]),
         };
         row[FIELD_COUNT] == template.len() as u64
-            && fields_agree(row_fields(row), template)
+            && self.fields_agree(row_fields(row), template)
             && self.partition_agrees(partition, pair.partition, template)
             && self.key_agrees(key, pair.key)
+    }
+
+    fn fields_agree(&self, entrys: &[u64], template: &[u64]) -> bool {
+        entrys
+            .iter()
+            .zip(template)
+            .all(|(entrys, templates)| self.field_agrees(*entrys, *templates))
+    }
+
+    fn field_agrees(&self, entrys: u64, templates: u64) -> bool {
+        let fields = (self.template_field(templates), Field::from_word(entrys));
+        let (Some(template), Some(entry)) = fields else {
+            // Only a slip that takes a row with a bad word for sound gets here.
+            return false;
+        };
+        self.bound_slip(template, entry)
+            .unwrap_or_else(|| template.agrees(entry))
+    }
+
+    /// Whether a template's bound agrees with an entry's field, where a slip says it.
+    fn bound_slip(&self, template: Field, entry: Field) -> Option<bool> {
+        use Field::{AtLeast, AtMost, Key, Message, Partition};
+        Some(match (self.variant, template, entry) {
+            (Variant::AtLeastIsMoreThan, AtLeast(number), Message(message)) => message > number,
+            (Variant::AtMostIsLessThan, AtMost(number), Message(message)) => message < number,
+            (Variant::BoundsExchanged, AtLeast(number), Message(message)) => message <= number,
+            (Variant::BoundsExchanged, AtMost(number), Message(message)) => message >= number,
+            (Variant::AtLeastIsSigned, AtLeast(number), Message(message)) => {
+                message as i32 >= number as i32
+            }
+            (Variant::AtMostIsSigned, AtMost(number), Message(message)) => {
+                message as i32 <= number as i32
+            }
+            (Variant::AtLeastAgreesWithPartition, AtLeast(number), Partition(partition)) => {
+                partition >= number
+            }
+            (Variant::AtMostAgreesWithPartition, AtMost(number), Partition(partition)) => {
+                partition <= number
+            }
+            (Variant::AtLeastAgreesWithKey, AtLeast(number), Key(key)) => {
+                stored_key(key) >= number.into()
+            }
+            (Variant::AtMostAgreesWithKey, AtMost(number), Key(key)) => {
+                stored_key(key) <= number.into()
+            }
+            _ => return None,
+        })
     }
 
     fn partition_agrees(&self, entrys: u64, templates: u32, template: &[u64]) -> bool {
         let blunder = match self.variant {
             Variant::DefaultPartitionMatchesAll => templates == 0,
             Variant::WildcardsMatchPartition => template.iter().all(|word| is_wildcard(*word)),
+            Variant::BoundedMatchesAllPartitions => template.iter().any(|word| is_bound(*word)),
             _ => false,
         };
         blunder || entrys == u64::from(templates)
@@ -316,11 +410,11 @@ fn is_wildcard(word: u64) -> bool {
     Field::from_word(word) == Some(Field::Wildcard)
 }
 
-fn fields_agree(entrys: &[u64], template: &[u64]) -> bool {
-    entrys
-        .iter()
-        .zip(template)
-        .all(|(entrys, templates)| is_wildcard(*templates) || entrys == templates)
+fn is_bound(word: u64) -> bool {
+    matches!(
+        Field::from_word(word),
+        Some(Field::AtLeast(_) | Field::AtMost(_))
+    )
 }
 
 fn holds_partition(space: &[u64], party: usize, partition: u32) -> bool {

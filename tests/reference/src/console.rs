@@ -285,6 +285,8 @@ fn parse_field(text: &[u8]) -> Option<u64> {
         b'p' => Field::Partition(parse_number(number)?),
         b'k' => Field::Key(parse_key(number).filter(|key| key_in_range(*key))?),
         b'*' if number.is_empty() => Field::Wildcard,
+        b'g' => Field::AtLeast(parse_number(number)?),
+        b'l' => Field::AtMost(parse_number(number)?),
         _ => return None,
     };
     Some(field.word())
@@ -300,6 +302,8 @@ fn render_field(word: u64) -> String {
         Some(Field::Message(message)) => format!("m{message}"),
         Some(Field::Partition(partition)) => format!("p{partition}"),
         Some(Field::Key(key)) => format!("k{key}"),
-        Some(Field::Wildcard) | None => unreachable!("no entry has the field word {word}"),
+        Some(Field::Wildcard | Field::AtLeast(_) | Field::AtMost(_)) | None => {
+            unreachable!("no entry has the field word {word}")
+        }
     }
 }

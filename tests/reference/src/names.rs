@@ -63,6 +63,10 @@ pub enum Field {
     Partition(u32),
     Key(i32),
     Wildcard,
+    /// A bound, as the next one: for messages of at least this number.
+    AtLeast(u32),
+    /// For messages of at most this number.
+    AtMost(u32),
 }
 
 impl Field {
@@ -75,6 +79,8 @@ impl Field {
             1 if value <= u64::from(LAST_PARTITION) => Some(Field::Partition(value as u32)),
             2 => key_of_stored(value).map(Field::Key),
             3 if value == 0 => Some(Field::Wildcard),
+            4 => Some(Field::AtLeast(value as u32)),
+            5 => Some(Field::AtMost(value as u32)),
             _ => None,
         }
     }
@@ -86,11 +92,26 @@ impl Field {
             Field::Partition(partition) => KIND + u64::from(partition),
             Field::Key(key) => 2 * KIND + stored_key(key),
             Field::Wildcard => 3 * KIND,
+            Field::AtLeast(number) => 4 * KIND + u64::from(number),
+            Field::AtMost(number) => 5 * KIND + u64::from(number),
+        }
+    }
+
+    /// Whether this field of a template agrees with an entry's field in the same place.
+    pub fn agrees(self, entrys: Field) -> bool {
+        match (self, entrys) {
+            (Field::Wildcard, _) => true,
+            (Field::AtLeast(number), Field::Message(message)) => message >= number,
+            (Field::AtMost(number), Field::Message(message)) => message <= number,
+            _ => self == entrys,
         }
     }
 }
 
-/// Whether a put may carry this word: neither bad nor the wildcard.
+/// Whether a put may carry this word: a message or a name, neither bad nor for templates only.
 pub fn may_be_put(word: u64) -> bool {
-    !matches!(Field::from_word(word), None | Some(Field::Wildcard))
+    matches!(
+        Field::from_word(word),
+        Some(Field::Message(_) | Field::Partition(_) | Field::Key(_))
+    )
 }

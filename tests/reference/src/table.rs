@@ -125,9 +125,7 @@ impl Clause {
             Clause::FieldCount => {
                 live_rows(space).all(|row| (1..=MOST_FIELDS as u64).contains(&row[FIELD_COUNT]))
             }
-            Clause::FieldWords => {
-                live_rows(space).all(|row| row_fields(row).iter().all(|word| may_be_put(*word)))
-            }
+            Clause::FieldWords => all_field_words(space, may_be_put),
             Clause::UnusedFieldWords => live_rows(space).all(|row| {
                 let used = row_fields(row).len();
                 row[FIELDS + used..].iter().all(|word| *word == 0)
@@ -141,6 +139,11 @@ impl Clause {
                 .all(|row| row.iter().all(|word| *word == 0)),
         }
     }
+}
+
+/// Whether all field words in use are such.
+pub fn all_field_words(space: &[u64], such: impl Fn(u64) -> bool) -> bool {
+    live_rows(space).all(|row| row_fields(row).iter().all(|word| such(*word)))
 }
 
 fn key_words(space: &[u64]) -> &[u64] {

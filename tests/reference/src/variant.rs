@@ -32,6 +32,38 @@ pub enum Variant {
     LeavesFreedRow,
     /// Allows a seventeenth live entry.
     LimitOneTooHigh,
+    /// Takes at least a number for more than it.
+    AtLeastIsMoreThan,
+    /// Takes at most a number for less than it.
+    AtMostIsLessThan,
+    /// Takes each bound for the other.
+    BoundsExchanged,
+    /// Compares at least, and a message with it, as numbers that have a sign.
+    AtLeastIsSigned,
+    /// The same of at most.
+    AtMostIsSigned,
+    /// Lets at least agree with a partition by its number.
+    AtLeastAgreesWithPartition,
+    /// The same of at most.
+    AtMostAgreesWithPartition,
+    /// Lets at least agree with a key by the number it is stored as.
+    AtLeastAgreesWithKey,
+    /// The same of at most.
+    AtMostAgreesWithKey,
+    /// Takes at most for a partition when it asks what the party holds.
+    AtMostNamesPartition,
+    /// Lets a template with a bound match every partition.
+    BoundedMatchesAllPartitions,
+    /// Lets a put carry at least.
+    PutsAtLeast,
+    /// Lets a put carry at most.
+    PutsAtMost,
+    /// Takes a word of kind 6 in a template for the wildcard.
+    KindSixIsWildcard,
+    /// Takes a row with at least for sound.
+    AtLeastInRowIsSound,
+    /// Takes a row with at most for sound.
+    AtMostInRowIsSound,
     /// Takes the space as sound without testing this clause.
     Skips(Clause),
 }
@@ -58,12 +90,40 @@ impl Variant {
         Variant::LimitOneTooHigh,
     ];
 
+    /// Slips about the bounds.
+    pub const BOUND_SLIPS: [Variant; 16] = [
+        Variant::AtLeastIsMoreThan,
+        Variant::AtMostIsLessThan,
+        Variant::BoundsExchanged,
+        Variant::AtLeastIsSigned,
+        Variant::AtMostIsSigned,
+        Variant::AtLeastAgreesWithPartition,
+        Variant::AtMostAgreesWithPartition,
+        Variant::AtLeastAgreesWithKey,
+        Variant::AtMostAgreesWithKey,
+        Variant::AtMostNamesPartition,
+        Variant::BoundedMatchesAllPartitions,
+        Variant::PutsAtLeast,
+        Variant::PutsAtMost,
+        Variant::KindSixIsWildcard,
+        Variant::AtLeastInRowIsSound,
+        Variant::AtMostInRowIsSound,
+    ];
+
     /// Clauses that can be skipped: without the first two there would be no table to look at.
     pub fn skipped_clauses() -> impl Iterator<Item = Variant> {
         Clause::ALL
             .into_iter()
             .filter(|clause| !matches!(clause, Clause::Length | Clause::LiveCount))
             .map(Variant::Skips)
+    }
+
+    /// Whether only an unsound space shows it.
+    pub fn is_about_soundness(self) -> bool {
+        matches!(
+            self,
+            Variant::AtLeastInRowIsSound | Variant::AtMostInRowIsSound | Variant::Skips(_)
+        )
     }
 
     /// Whether charges are kept apart from the rows, as only some blunders do.

@@ -1,10 +1,15 @@
-//! The rules' twelve cases and the small examples of their table of refusals.
+//! The rules' twelve cases, the small examples of their table of refusals, and the bounds.
 
 use reference::names::{key_bit, partition_bit, stored_key};
-use reference::table::{KEYS, PARTITIONS, WORDS};
-use reference::{co_key, Answer, Field, Operation, Pair, Query, Reference};
+use reference::table::{broken_clause, row_start, FIELDS, KEYS, PARTITIONS, WORDS};
+use reference::{co_key, Answer, Clause, Field, Operation, Pair, Query, Reference};
 
 const WILDCARD: u64 = 12_884_901_888;
+/// The words of the kinds 4 to 6 with the number 0.
+const AT_LEAST: u64 = 17_179_869_184;
+const AT_MOST: u64 = 21_474_836_480;
+const KIND_6: u64 = 25_769_803_776;
+const LAST_MESSAGE: u64 = 4_294_967_295;
 const DEFAULT: Pair = Pair {
     partition: 0,
     key: 0,
@@ -148,4 +153,152 @@ fn examples_of_the_refusals() {
     bit_63[15] = 1 << 63;
     assert_eq!(reference.open(&mut space, &bit_63), Answer::Refused(9));
     assert_eq!(space, opening());
+}
+
+/// What a read by these words answers with one entry of these fields there.
+fn read_one(entry: &[u64], template: &[u64]) -> Answer {
+    let mut space = opening();
+    assert_eq!(put(&mut space, 0, DEFAULT, entry), Answer::Done);
+    let (answer, result) = read(&mut space, 1, DEFAULT, template);
+    if let Answer::Found(count) = answer {
+        assert_eq!(&result[..count], entry);
+    }
+    answer
+}
+
+#[test]
+fn words_of_bounds() {
+    assert_eq!(Field::AtLeast(0).word(), AT_LEAST);
+    assert_eq!(Field::AtMost(u32::MAX).word(), AT_MOST + LAST_MESSAGE);
+    for number in [0, 7, 1 << 31, u32::MAX] {
+        for field in [Field::AtLeast(number), Field::AtMost(number)] {
+            assert_eq!(Field::from_word(field.word()), Some(field));
+        }
+    }
+    for word in [KIND_6, KIND_6 + 7, 7 << 32, 260 << 32, u64::MAX] {
+        assert_eq!(Field::from_word(word), None);
+    }
+}
+
+#[test]
+fn bounds_against_messages() {
+    let numbers = [
+        0,
+        1,
+        7,
+        (1 << 31) - 1,
+        1 << 31,
+        LAST_MESSAGE - 1,
+        LAST_MESSAGE,
+    ];
+    for (place, message) in numbers.into_iter().enumerate() {
+        for (other, number) in numbers.into_iter().enumerate() {
+            let due = |found| match found {
+                true => Answer::Found(1),
+                false => Answer::None,
+            };
+            let at_least = read_one(&[message], &[AT_LEAST + number]);
+            assert_eq!(at_least, due(place >= other), "{message}, {number}");
+            let at_most = read_one(&[message], &[AT_MOST + number]);
+            assert_eq!(at_most, due(place <= other), "{message}, {number}");
+        }
+    }
+}
+
+#[test]
+fn bounds_against_names() {
+    for name in [
+        Field::Partition(0),
+        Field::Partition(5),
+        Field::Key(0),
+        Field::Key(4),
+    ] {
+        let low = name.word() % (1 << 32);
+        for number in [0, low, LAST_MESSAGE] {
+            for bound in [AT_LEAST, AT_MOST] {
+                let found = read_one(&[name.word()], &[bound + number]);
+                assert_eq!(found, Answer::None, "{name:?}, {bound} + {number}");
+            }
+        }
+    }
+}
+
+#[test]
+fn two_bounds() {
+    for (template, answer) in [
+        ([AT_LEAST + 7, AT_MOST + 120], Answer::Found(2)),
+        ([AT_MOST + 7, AT_LEAST + 120], Answer::Found(2)),
+        ([AT_LEAST + 8, AT_MOST + 120], Answer::None),
+        ([AT_LEAST + 7, AT_MOST + 119], Answer::None),
+        ([AT_LEAST, AT_LEAST], Answer::Found(2)),
+    ] {
+        assert_eq!(read_one(&[7, 120], &template), answer, "{template:?}");
+    }
+    assert_eq!(read_one(&[7, 120], &[AT_LEAST + 7]), Answer::None);
+}
+
+#[test]
+fn bounds_find_the_oldest_in_range() {
+    let mut space = opening();
+    for message in [10, 30, 20] {
+        assert_eq!(put(&mut space, 0, HERE, &[message]), Answer::Done);
+    }
+    for (bound, message) in [
+        (AT_LEAST + 11, 30),
+        (AT_LEAST + 11, 20),
+        (AT_MOST + LAST_MESSAGE, 10),
+    ] {
+        let (answer, result) = take(&mut space, 1, THERE, &[bound]);
+        assert_eq!((answer, result[0]), (Answer::Found(1), message));
+    }
+    assert_eq!(space, opening());
+}
+
+#[test]
+fn bounds_carry_no_name() {
+    let mut space = opening();
+    let before = space.clone();
+    // Party 2 holds neither partition 5 nor key 4, which is stored as 35.
+    for bound in [AT_LEAST + 5, AT_MOST + 5, AT_LEAST + 35, AT_MOST + 35] {
+        let found = read(&mut space, 2, DEFAULT, &[bound]);
+        assert_eq!(found, (Answer::None, [99; 8]));
+    }
+    assert_eq!(put(&mut space, 0, DEFAULT, &[5]), Answer::Done);
+    let (answer, _) = take(&mut space, 2, DEFAULT, &[AT_MOST + 5]);
+    assert_eq!(answer, Answer::Found(1));
+    assert_eq!(space, before);
+}
+
+#[test]
+fn bounds_in_puts_and_kinds_above() {
+    let mut space = opening();
+    for number in [0, 7, LAST_MESSAGE] {
+        for bound in [AT_LEAST, AT_MOST] {
+            let answer = put(&mut space, 0, DEFAULT, &[1, bound + number]);
+            assert_eq!(answer, Answer::Refused(5));
+        }
+        for kind in [KIND_6, 7 << 32, 8 << 32, 260 << 32, 1 << 63] {
+            let words = [1, kind + number];
+            assert_eq!(put(&mut space, 0, DEFAULT, &words), Answer::Refused(5));
+            let refused = (Answer::Refused(5), [99; 8]);
+            assert_eq!(read(&mut space, 0, DEFAULT, &words), refused);
+            assert_eq!(take(&mut space, 0, DEFAULT, &words), refused);
+        }
+    }
+    assert_eq!(space, opening());
+}
+
+#[test]
+fn row_with_a_bound_is_unsound() {
+    for bound in [AT_LEAST, AT_MOST + 7, AT_MOST + LAST_MESSAGE, KIND_6] {
+        let mut space = opening();
+        assert_eq!(put(&mut space, 0, DEFAULT, &[1, 2]), Answer::Done);
+        assert_eq!(broken_clause(&space), None);
+        space[row_start(0) + FIELDS + 1] = bound;
+        assert_eq!(broken_clause(&space), Some(Clause::FieldWords));
+        assert_eq!(put(&mut space, 0, DEFAULT, &[1]), Answer::Refused(1));
+        let refused = (Answer::Refused(1), [99; 8]);
+        assert_eq!(read(&mut space, 0, DEFAULT, &[1, WILDCARD]), refused);
+        assert_eq!(take(&mut space, 0, DEFAULT, &[1, bound]), refused);
+    }
 }

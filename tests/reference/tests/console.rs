@@ -71,6 +71,9 @@ fn readable_and_refused() {
         ("put 0 0 0 0 0 p64", "no5"),
         ("put 0 0 0 0 0 p4294967295", "no5"),
         ("put 0 0 0 0 0 *", "no5"),
+        ("put 0 0 0 0 0 g7", "no5"),
+        ("put 0 0 0 0 0 m1,l4294967295", "no5"),
+        ("put 0 63 0 0 0 l0", "no5"),
         ("put 0 0 0 0 0 -", "no3"),
         ("put 0 0 0 0 0 m0,m0,m0,m0,m0,m0,m0,m0,m0", "no3"),
         (
@@ -88,6 +91,9 @@ fn readable_and_refused() {
         ("read 0 0 32 - - *", "no4"),
         ("take 0 0 0 - - p0,k0,m4294967295", "none"),
         ("take 0 0 0 - - k-31", "no7"),
+        ("read 0 0 0 - - g0,g4294967295", "none"),
+        ("take 0 0 0 - - l0,l4294967295", "none"),
+        ("read 0 0 0 - - g0,g0,g0,g0,g0,l0,l0,l0,l0", "no3"),
     ] {
         assert_eq!(
             after_names(&format!("{line}\n")),
@@ -142,6 +148,20 @@ fn unreadable_lines() {
         "put 0 0 0 0 0 m0,-",
         "put 0 0 0 0 0 m0,,m0",
         "put 0 0 0 0 0 x1",
+        "put 0 0 0 0 0 g",
+        "read 0 0 0 - - g",
+        "read 0 0 0 - - g-1",
+        "read 0 0 0 - - g01",
+        "read 0 0 0 - - g+1",
+        "read 0 0 0 - - g4294967296",
+        "read 0 0 0 - - G7",
+        "read 0 0 0 - - l",
+        "read 0 0 0 - - l-1",
+        "read 0 0 0 - - l01",
+        "take 0 0 0 - - l4294967296",
+        "take 0 0 0 - - L7",
+        "take 0 0 0 - - g7,",
+        "read 0 0 0 - - g7*",
         "put 0 0 0 0 0 m0,m0,m0,m0,m0,m0,m0,m0,m0,m0,m0,m0,m0,m0,m0,m0,m0",
         "read 0 0 0 0 0 *",
         "read 0 0 0 - 0 *",
@@ -187,6 +207,39 @@ put 2 5 -4 5 4 m1
 3 found p5,k4
 4 done -
 5 no7 -
+";
+    assert_eq!(after_names(lines), output);
+}
+
+#[test]
+fn bounds_pick_by_their_number() {
+    let lines = "\
+put 0 0 0 0 0 m7,m100
+put 0 0 0 0 0 m7,m4294967295
+put 0 0 0 0 0 m7,p0
+read 1 0 0 - - m7,g100
+read 1 0 0 - - m7,g101
+read 1 0 0 - - m7,l100
+read 1 0 0 - - m7,l99
+take 1 0 0 - - l7,g4294967295
+take 1 0 0 - - g7,l4294967295
+take 1 0 0 - - *,g0
+take 1 0 0 - - *,l4294967295
+take 1 0 0 - - *,*
+";
+    let output = "\
+1 done -
+2 done -
+3 done -
+4 found m7,m100
+5 found m7,m4294967295
+6 found m7,m100
+7 none -
+8 found m7,m4294967295
+9 found m7,m100
+10 none -
+11 none -
+12 found m7,p0
 ";
     assert_eq!(after_names(lines), output);
 }

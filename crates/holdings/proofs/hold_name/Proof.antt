@@ -108,6 +108,12 @@ enum-told-2 c = search needs
 enum-told-3 : tie.Need-enum-told-3
 enum-told-3 c = search needs
 
+enum-told-4 : tie.Need-enum-told-4
+enum-told-4 c = search needs
+
+enum-told-5 : tie.Need-enum-told-5
+enum-told-5 c = search needs
+
 returns : tie.Need-returns
 returns c = no-name (c .before .before) _ (c .enum-told .given .1) refl
 
@@ -135,6 +141,12 @@ returns-4 c = no-name (c .before .before) _ (c .enum-told2 .given .1) refl
 returns-5 : tie.Need-returns-5
 returns-5 c = no-name (c .before .before) _ (c .enum-told3 .given .1) refl
 
+returns-6 : tie.Need-returns-6
+returns-6 c = no-name (c .before .before) _ (c .enum-told4 .given .1) refl
+
+returns-7 : tie.Need-returns-7
+returns-7 c = no-name (c .before .before) _ (c .enum-told5 .given .1) refl
+
 pub hold-name-spec : {M : Type 1} → statement M
 hold-name-spec =
     tie.close
@@ -159,10 +171,14 @@ hold-name-spec =
     slice-write-space-2
     enum-told-2
     enum-told-3
+    enum-told-4
+    enum-told-5
     returns
     same-length
     returns-2
     same-length-2
     returns-3
     returns-4
-    returns-5)
+    returns-5
+    returns-6
+    returns-7)

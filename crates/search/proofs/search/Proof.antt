@@ -9,10 +9,12 @@ use native.Mathlib.Nat.{le-antisymm, ne-of-lt}
 use borrow.Author.Needs.{needs}
 use borrow.Author.Tests.{not-true, not-false, eq-eqb, ne-eqb}
 use lib.Dec.{eqb}
-use lib.ListN.{length, drop}
+use lib.ListN.{length, getD, drop}
 use Rattle.rules.specs.Names.{coStored}
 use Rattle.rules.specs.Matching.{Entry, fieldsAgree, matches}
 use Rattle.rules.specs.Matching as matching
+use Rattle.rules.proofs.ListLaws.{all-true, All-at}
+use Rattle.words.specs.Kind.{plain}
 use Rattle.rules.specs.Words.{decode, sound}
 use Rattle.rules.proofs.Back.{sound-facts, decode-len}
 use Rattle.search.specs.Place.{meant, place}
@@ -48,24 +50,30 @@ record Fields (space template : List ℕ) (row word i : ℕ) : Type 0 where
   rest : fieldsAgree template (entryOn space word .fields) ≡ fieldsAgree (drop i template) (drop i (entryOn space word .fields))
 
 abbrev Inv-fields : tie.InvT-fields
-Inv-fields space partition cokey template pair live count row word at i₀ i = Fields space template row word i
+Inv-fields space partition cokey template pair live count bounded row word at i₀ i = Fields space template row word i
 
 abbrev μ-fields : tie.MeasureT-fields
-μ-fields space partition cokey template pair live count row word at i₀ i = length template - i
+μ-fields space partition cokey template pair live count bounded row word at i₀ i = length template - i
 
 abbrev Inv-rows : tie.InvT-rows
-Inv-rows space partition cokey template pair live count row₀ word₀ row word = Rows space partition cokey template pair live row word
+Inv-rows space partition cokey template pair live count bounded row₀ word₀ row word = Rows space partition cokey template pair live row word
 
 abbrev μ-rows : tie.MeasureT-rows
-μ-rows space partition cokey template pair live count row₀ word₀ row word = live - row
+μ-rows space partition cokey template pair live count bounded row₀ word₀ row word = live - row
 
--- the places of the walk, each by its way to the one before it: the pair's offset, a row, its pair's test, a field's test,
+-- the places of the walk, each by its way to the one before it: the pair's offset, the template's test, a row, its pair's test, a field's test,
 -- and where the loop over the fields is left
 abbrev pair-start : tie.After-pair-of Inv-fields μ-fields Inv-rows μ-rows → tie.Start Inv-fields μ-fields Inv-rows μ-rows
 pair-start c = c .before .before .before
 
+abbrev bounds-pair : tie.After-has-bounds Inv-fields μ-fields Inv-rows μ-rows → tie.After-pair-of Inv-fields μ-fields Inv-rows μ-rows
+bounds-pair c = c .before .before .before
+
+abbrev row-bounds : tie.At-rows Inv-fields μ-fields Inv-rows μ-rows → tie.After-has-bounds Inv-fields μ-fields Inv-rows μ-rows
+row-bounds c = c .before
+
 abbrev row-pair : tie.At-rows Inv-fields μ-fields Inv-rows μ-rows → tie.After-pair-of Inv-fields μ-fields Inv-rows μ-rows
-row-pair c = c .before .before
+row-pair c = bounds-pair (row-bounds c)
 
 abbrev row-start : tie.At-rows Inv-fields μ-fields Inv-rows μ-rows → tie.Start Inv-fields μ-fields Inv-rows μ-rows
 row-start c = pair-start (row-pair c)
@@ -73,8 +81,14 @@ row-start c = pair-start (row-pair c)
 abbrev test-row : tie.After-pair-agrees Inv-fields μ-fields Inv-rows μ-rows → tie.In-rows Inv-fields μ-fields Inv-rows μ-rows
 test-row c = c .before
 
-abbrev field-turn : tie.After-field-agrees Inv-fields μ-fields Inv-rows μ-rows → tie.In-fields Inv-fields μ-fields Inv-rows μ-rows
+abbrev field-turn : tie.After-agrees Inv-fields μ-fields Inv-rows μ-rows → tie.In-fields Inv-fields μ-fields Inv-rows μ-rows
 field-turn c = c .before .before .before
+
+abbrev read-turn : tie.After-shared-slice-known5 Inv-fields μ-fields Inv-rows μ-rows → tie.In-fields Inv-fields μ-fields Inv-rows μ-rows
+read-turn c = c .before .before
+
+abbrev turn-row : tie.In-fields Inv-fields μ-fields Inv-rows μ-rows → tie.At-rows Inv-fields μ-fields Inv-rows μ-rows
+turn-row c = test-row (c .before .before .before) .before
 
 abbrev left-row : tie.Left-fields Inv-fields μ-fields Inv-rows μ-rows → tie.At-rows Inv-fields μ-fields Inv-rows μ-rows
 left-row c = test-row (c .before .before .before) .before
@@ -107,18 +121,28 @@ shared-slice-read-live c = omega (arith, sound-facts _ (pair-start (c .before) .
 cast-live : tie.Need-cast-live Inv-fields μ-fields Inv-rows μ-rows
 cast-live c = omega (arith, sound-facts _ (pair-start (c .before) .pre .0) .count)
 
+returns : tie.Need-returns Inv-fields μ-fields Inv-rows μ-rows
+returns c =
+    let a = pair-start (c .before .before) .args in
+    let none : getD (a .space .now) 0 0 ≤ 0 = omega (arith, c .if1 .taken) in
+    let m = sought (a .op) (a .partition) (a .cokey) (a .template .now) in
+    sym (past-none _ ∙ over m 0 (decode (a .space .now) .entries) _ (decode-len (a .space .now)) none)
+
 cast-count : tie.Need-cast-count Inv-fields μ-fields Inv-rows μ-rows
 cast-count c = search needs
 
+has-bounds-requires : tie.Need-has-bounds-requires Inv-fields μ-fields Inv-rows μ-rows
+has-bounds-requires c κs = pair-start (c .before .before) .pre .2
+
 rows-holds : tie.Need-rows-holds Inv-fields μ-fields Inv-rows μ-rows
 rows-holds c =
-    let start = pair-start (c .before) in
+    let start = pair-start (bounds-pair c) in
     let f = sound-facts _ (start .pre .0) in
     record {
       isSound = start .pre .0;
       size = f .len;
       few = f .count;
-      pairBound = offset-le (start .args .op) _ (c .before .pair-of .ensures);
+      pairBound = offset-le (start .args .op) _ (bounds-pair c .pair-of .ensures);
       keyBound = start .pre .1;
       bound = omega arith;
       here = refl;
@@ -135,34 +159,38 @@ pair-agrees-requires c κs =
 fields-holds : tie.Need-fields-holds Inv-fields μ-fields Inv-rows μ-rows
 fields-holds c =
     let row = live-at (test-row (c .before)) in
-    let same = count-on row _ _ _ _ _ (c .before .pair-agrees .ensures) (c .if1 .taken) in
+    let same = count-on row _ _ _ _ _ (c .before .pair-agrees .ensures) (c .if2 .taken) in
     record { live = row; same = same; few = rw same at (row .ok .few); bound = omega arith; rest = refl }
 
 cast-k : tie.Need-cast-k Inv-fields μ-fields Inv-rows μ-rows
 cast-k c = search needs
 
-mul-field-agrees : tie.Need-mul-field-agrees Inv-fields μ-fields Inv-rows μ-rows
-mul-field-agrees c = search needs
+mul-agrees : tie.Need-mul-agrees Inv-fields μ-fields Inv-rows μ-rows
+mul-agrees c = search needs
 
-shared-slice-read-field-agrees :
-    tie.Need-shared-slice-read-field-agrees Inv-fields μ-fields Inv-rows μ-rows
-shared-slice-read-field-agrees c = search needs
+shared-slice-read-agrees :
+    tie.Need-shared-slice-read-agrees Inv-fields μ-fields Inv-rows μ-rows
+shared-slice-read-agrees c = search needs
 
-add-field-agrees : tie.Need-add-field-agrees Inv-fields μ-fields Inv-rows μ-rows
-add-field-agrees c = search needs
+add-agrees : tie.Need-add-agrees Inv-fields μ-fields Inv-rows μ-rows
+add-agrees c = search needs
 
-add-field-agrees-2 : tie.Need-add-field-agrees-2 Inv-fields μ-fields Inv-rows μ-rows
-add-field-agrees-2 c = search needs
+add-agrees-2 : tie.Need-add-agrees-2 Inv-fields μ-fields Inv-rows μ-rows
+add-agrees-2 c = search needs
 
-mul-field-agrees-2 : tie.Need-mul-field-agrees-2 Inv-fields μ-fields Inv-rows μ-rows
-mul-field-agrees-2 c = search needs
+mul-agrees-2 : tie.Need-mul-agrees-2 Inv-fields μ-fields Inv-rows μ-rows
+mul-agrees-2 c = search needs
 
-shared-slice-read-field-agrees-2 :
-    tie.Need-shared-slice-read-field-agrees-2 Inv-fields μ-fields Inv-rows μ-rows
-shared-slice-read-field-agrees-2 c = search needs
+shared-slice-read-agrees-2 :
+    tie.Need-shared-slice-read-agrees-2 Inv-fields μ-fields Inv-rows μ-rows
+shared-slice-read-agrees-2 c = search needs
 
-field-agrees-requires : tie.Need-field-agrees-requires Inv-fields μ-fields Inv-rows μ-rows
-field-agrees-requires c κs = search needs
+agrees-requires : tie.Need-agrees-requires Inv-fields μ-fields Inv-rows μ-rows
+agrees-requires c κs =
+    let turn = read-turn c in
+    let row = turn-row turn in
+    let template = row-start row .args .template .now in
+    λ q. All-at (λ t. plain t ≡ true) template (all-true plain template (sym (row-bounds row .has-bounds .ensures) ∙ q)) _ (turn .fields-test .taken)
 
 add-i : tie.Need-add-i Inv-fields μ-fields Inv-rows μ-rows
 add-i c = search needs
@@ -180,7 +208,7 @@ fields-again c =
       few = inv .few;
       bound = omega arith;
       rest = inv .rest
-          ∙ fields-on (inv .live) _ _ _ true (turn .fields-test .taken) (inv .same) (c .before .field-agrees .ensures) (not-false _ (c .if2 .left));
+          ∙ fields-on (inv .live) _ _ _ true (turn .fields-test .taken) (inv .same) (c .before .agrees .ensures) (not-false _ (c .if3 .left));
     }
 
 add-row : tie.Need-add-row Inv-fields μ-fields Inv-rows μ-rows
@@ -211,17 +239,17 @@ rows-again c =
           (⊎-elim
           (λ w.
           let left : tie.Left-fields Inv-fields μ-fields Inv-rows μ-rows =
-          record { before = record { before = record { before = c .before; if1 = w .0 }; fields = w .1 }; fields-test = w .2 } in
+          record { before = record { before = record { before = c .before; if2 = w .0 }; fields = w .1 }; fields-test = w .2 } in
           match-on live op _ _ _ _ _ true false e (inv .keyBound) (c .before .pair-agrees .ensures) (w .0 .taken) (agreed left ∙ ne-eqb _ _ (w .3 .left)))
           (λ w. match-on live op _ _ _ _ _ false _ e (inv .keyBound) (c .before .pair-agrees .ensures) (w .left) refl)
-          (c .if1 .came));
+          (c .if2 .came));
     }
 
-cast-t32 : tie.Need-cast-t32 Inv-fields μ-fields Inv-rows μ-rows
-cast-t32 c = search needs
+cast-t33 : tie.Need-cast-t33 Inv-fields μ-fields Inv-rows μ-rows
+cast-t33 c = search needs
 
-returns : tie.Need-returns Inv-fields μ-fields Inv-rows μ-rows
-returns c =
+returns-2 : tie.Need-returns-2 Inv-fields μ-fields Inv-rows μ-rows
+returns-2 c =
     let row = c .before .before in
     let inv = row .rows .inv in
     let start = row-start row in
@@ -229,8 +257,8 @@ returns c =
     ⊎-elim
     (λ w. absurd (omega arith))
     (λ w.
-    let passed : tie.Then1 Inv-fields μ-fields Inv-rows μ-rows =
-    record { before = record { before = record { before = row; rows-test = w .0 }; pair-agrees = w .1 }; if1 = w .2 } in
+    let passed : tie.Then2 Inv-fields μ-fields Inv-rows μ-rows =
+    record { before = record { before = record { before = row; rows-test = w .0 }; pair-agrees = w .1 }; if2 = w .2 } in
     let left : tie.Left-fields Inv-fields μ-fields Inv-rows μ-rows = record { before = record { before = passed; fields = w .3 }; fields-test = w .4 } in
     let live = w .3 .inv .live in
     sym
@@ -240,10 +268,10 @@ returns c =
     (agreed left ∙ eq-eqb _ _ (w .5 .taken)))))
     (c .before .rows-test .came)
 
-returns-2 : tie.Need-returns-2 Inv-fields μ-fields Inv-rows μ-rows
-returns-2 c =
+returns-3 : tie.Need-returns-3 Inv-fields μ-fields Inv-rows μ-rows
+returns-3 c =
     let row = c .before .before in
-    sym (row .rows .inv .older (row-start row .args .op) (row-pair row .pair-of .ensures) ∙ over _ _ _ _ (decode-len _) (c .if4 .left))
+    sym (row .rows .inv .older (row-start row .args .op) (row-pair row .pair-of .ensures) ∙ over _ _ _ _ (decode-len _) (c .if5 .left))
 
 pub search-spec : {M : Type 1} → statement M
 search-spec =
@@ -256,19 +284,21 @@ search-spec =
     pair-of-requires
     shared-slice-read-live
     cast-live
+    returns
     cast-count
+    has-bounds-requires
     rows-holds
     cast-at
     pair-agrees-requires
     fields-holds
     cast-k
-    mul-field-agrees
-    shared-slice-read-field-agrees
-    add-field-agrees
-    add-field-agrees-2
-    mul-field-agrees-2
-    shared-slice-read-field-agrees-2
-    field-agrees-requires
+    mul-agrees
+    shared-slice-read-agrees
+    add-agrees
+    add-agrees-2
+    mul-agrees-2
+    shared-slice-read-agrees-2
+    agrees-requires
     add-i
     fields-less
     fields-again
@@ -276,6 +306,6 @@ search-spec =
     add-word
     rows-less
     rows-again
-    cast-t32
-    returns
-    returns-2)
+    cast-t33
+    returns-2
+    returns-3)

@@ -89,6 +89,56 @@ back-number c = c .before .before
 abbrev number-back-key : tie.After-slice-known4 → tie.After-f3
 number-back-key c = to-number-key (number-lent (back-number c))
 
+-- at least
+abbrev least-kind : tie.After-f4 → tie.After-field-of
+least-kind c = c .before .before
+
+abbrev least-start : tie.After-f4 → tie.Start
+least-start c = kind-start (least-kind c)
+
+abbrev g-least : tie.After-known-told4 → tie.After-f4
+g-least c = c .before
+
+abbrev to-low-g : tie.After-render-decimal-arg3 → tie.After-known-told4
+to-low-g c = c .before
+
+abbrev to-low-least : tie.After-render-decimal-arg3 → tie.After-f4
+to-low-least c = g-least (to-low-g c)
+
+abbrev low-lent : tie.After-render-decimal3 → tie.After-render-decimal-arg3
+low-lent c = c .before
+
+abbrev back-low : tie.After-slice-known5 → tie.After-render-decimal3
+back-low c = c .before .before
+
+abbrev low-back-least : tie.After-slice-known5 → tie.After-f4
+low-back-least c = to-low-least (low-lent (back-low c))
+
+-- at most
+abbrev most-kind : tie.After-f5 → tie.After-field-of
+most-kind c = c .before .before
+
+abbrev most-start : tie.After-f5 → tie.Start
+most-start c = kind-start (most-kind c)
+
+abbrev l-most : tie.After-known-told5 → tie.After-f5
+l-most c = c .before
+
+abbrev to-high-l : tie.After-render-decimal-arg4 → tie.After-known-told5
+to-high-l c = c .before
+
+abbrev to-high-most : tie.After-render-decimal-arg4 → tie.After-f5
+to-high-most c = l-most (to-high-l c)
+
+abbrev high-lent : tie.After-render-decimal4 → tie.After-render-decimal-arg4
+high-lent c = c .before
+
+abbrev back-high : tie.After-slice-known6 → tie.After-render-decimal4
+back-high c = c .before .before
+
+abbrev high-back-most : tie.After-slice-known6 → tie.After-f5
+high-back-most c = to-high-most (high-lent (back-high c))
+
 -- one byte
 abbrev wildcard-kind : tie.After-enum-told → tie.After-field-of
 wildcard-kind c = c .before .before
@@ -114,6 +164,12 @@ key-text c = render-by _ _ _ (key-kind c .field-of .ensures) (c .f3 .given .1)
 
 wildcard-text : (c : tie.After-enum-told) → renderField (wildcard-start c .args .w) ≡ 42 ∷ []
 wildcard-text c = render-by _ _ _ (wildcard-kind c .field-of .ensures) (c .enum-told .given .1)
+
+least-text : (c : tie.After-f4) → renderField (least-start c .args .w) ≡ 103 ∷ decimal (c .f4 .given .0 .0)
+least-text c = render-by _ _ _ (least-kind c .field-of .ensures) (c .f4 .given .1)
+
+most-text : (c : tie.After-f5) → renderField (most-start c .args .w) ≡ 108 ∷ decimal (c .f5 .given .0 .0)
+most-text c = render-by _ _ _ (most-kind c .field-of .ensures) (c .f5 .given .1)
 
 bad-text : (c : tie.After-enum-told2) → renderField (bad-start c .args .w) ≡ 63 ∷ []
 bad-text c = render-by _ _ _ (bad-kind c .field-of .ensures) (c .enum-told2 .given .1)
@@ -178,11 +234,43 @@ slice-write-out-4 c = let s = wildcard-start c in first-room (s .args .out .now)
 add-result : tie.Need-add-result
 add-result c = search needs
 
+enum-known-f-4 : tie.Need-enum-known-f-4
+enum-known-f-4 c = search needs
+
+slice-write-out-5 : tie.Need-slice-write-out-5
+slice-write-out-5 c =
+    let s = least-start (g-least c) in
+    first-room (s .args .out .now) _ _ _ _ (least-text (g-least c)) (s .pre)
+
+add-render-decimal-3 : tie.Need-add-render-decimal-3
+add-render-decimal-3 c = search needs
+
+render-decimal-requires-3 : tie.Need-render-decimal-requires-3
+render-decimal-requires-3 c κs =
+    let s = least-start (to-low-least c) in
+    rest-room (s .args .out .now) _ _ _ _ (least-text (to-low-least c)) (s .pre)
+
+enum-known-f-5 : tie.Need-enum-known-f-5
+enum-known-f-5 c = search needs
+
+slice-write-out-6 : tie.Need-slice-write-out-6
+slice-write-out-6 c =
+    let s = most-start (l-most c) in
+    first-room (s .args .out .now) _ _ _ _ (most-text (l-most c)) (s .pre)
+
+add-render-decimal-4 : tie.Need-add-render-decimal-4
+add-render-decimal-4 c = search needs
+
+render-decimal-requires-4 : tie.Need-render-decimal-requires-4
+render-decimal-requires-4 c κs =
+    let s = most-start (to-high-most c) in
+    rest-room (s .args .out .now) _ _ _ _ (most-text (to-high-most c)) (s .pre)
+
 enum-told-2 : tie.Need-enum-told-2
 enum-told-2 c = search needs
 
-slice-write-out-5 : tie.Need-slice-write-out-5
-slice-write-out-5 c = let s = bad-start c in first-room (s .args .out .now) _ _ _ _ (bad-text c) (s .pre)
+slice-write-out-7 : tie.Need-slice-write-out-7
+slice-write-out-7 c = let s = bad-start c in first-room (s .args .out .now) _ _ _ _ (bad-text c) (s .pre)
 
 add-result-2 : tie.Need-add-result-2
 add-result-2 c = search needs
@@ -220,10 +308,26 @@ returns-4 c =
     written-rest (s .args .out .now) _ _ _ _ (wildcard-text c) (s .pre) (written-none _ _)
 
 same-length-5 : tie.Need-same-length-5
-same-length-5 c = search needs
+same-length-5 c = back-low c .render-decimal3 .kept .1 .0 ∙ length-set (least-start (low-back-least c) .args .out .now) _ _
 
 returns-5 : tie.Need-returns-5
 returns-5 c =
+    let g = low-back-least c in
+    written-rest _ _ _ _ _ (least-text g) (least-start g .pre) (back-low c .render-decimal3 .ensures)
+
+same-length-6 : tie.Need-same-length-6
+same-length-6 c = back-high c .render-decimal4 .kept .1 .0 ∙ length-set (most-start (high-back-most c) .args .out .now) _ _
+
+returns-6 : tie.Need-returns-6
+returns-6 c =
+    let l = high-back-most c in
+    written-rest _ _ _ _ _ (most-text l) (most-start l .pre) (back-high c .render-decimal4 .ensures)
+
+same-length-7 : tie.Need-same-length-7
+same-length-7 c = search needs
+
+returns-7 : tie.Need-returns-7
+returns-7 c =
     let s = bad-start c in
     written-rest (s .args .out .now) _ _ _ _ (bad-text c) (s .pre) (written-none _ _)
 
@@ -247,8 +351,16 @@ render-field-spec =
     enum-told
     slice-write-out-4
     add-result
-    enum-told-2
+    enum-known-f-4
     slice-write-out-5
+    add-render-decimal-3
+    render-decimal-requires-3
+    enum-known-f-5
+    slice-write-out-6
+    add-render-decimal-4
+    render-decimal-requires-4
+    enum-told-2
+    slice-write-out-7
     add-result-2
     same-length
     returns
@@ -259,4 +371,8 @@ render-field-spec =
     same-length-4
     returns-4
     same-length-5
-    returns-5)
+    returns-5
+    same-length-6
+    returns-6
+    same-length-7
+    returns-7)

@@ -52,6 +52,12 @@ enum-told-2 c = search needs
 enum-told-3 : tie.Need-enum-told-3
 enum-told-3 c = search needs
 
+enum-told-4 : tie.Need-enum-told-4
+enum-told-4 c = search needs
+
+enum-told-5 : tie.Need-enum-told-5
+enum-told-5 c = search needs
+
 returns : tie.Need-returns
 returns c = kind-decides (c .before .before) _ (c .enum-told .given .1)
 
@@ -73,6 +79,12 @@ returns-4 c = kind-decides (c .before .before) _ (c .enum-told2 .given .1)
 returns-5 : tie.Need-returns-5
 returns-5 c = kind-decides (c .before .before) _ (c .enum-told3 .given .1)
 
+returns-6 : tie.Need-returns-6
+returns-6 c = kind-decides (c .before .before) _ (c .enum-told4 .given .1)
+
+returns-7 : tie.Need-returns-7
+returns-7 c = kind-decides (c .before .before) _ (c .enum-told5 .given .1)
+
 pub field-held-spec : {M : Type 1} → statement M
 field-held-spec =
     tie.close
@@ -85,8 +97,12 @@ field-held-spec =
     has-bit-requires-2
     enum-told-2
     enum-told-3
+    enum-told-4
+    enum-told-5
     returns
     returns-2
     returns-3
     returns-4
-    returns-5)
+    returns-5
+    returns-6
+    returns-7)

@@ -34,9 +34,20 @@ returns-7 c = simp (c .before .match .keys4, ne-eqb _ _ (c .if3 .left))
 
 returns-8 : tie.Need-returns-8
 unfolding field
-returns-8 c = let r = c .match .rest in simp (ne-eqb _ 0 (r .0 .0 .0 .1), ne-eqb _ 1 (r .0 .0 .1), ne-eqb _ 2 (r .0 .1), ne-eqb _ 3 (r .1))
+returns-8 c = simp (c .match .keys5)
+
+returns-9 : tie.Need-returns-9
+unfolding field
+returns-9 c = simp (c .match .keys6)
+
+returns-10 : tie.Need-returns-10
+unfolding field
+returns-10 c =
+    let r = c .match .rest in
+    simp
+    (ne-eqb _ 0 (r .0 .0 .0 .0 .0 .1), ne-eqb _ 1 (r .0 .0 .0 .0 .1), ne-eqb _ 2 (r .0 .0 .0 .1), ne-eqb _ 3 (r .0 .0 .1), ne-eqb _ 4 (r .0 .1), ne-eqb _ 5 (r .1))
 
 pub field-of-spec : {M : Type 1} → statement M
 field-of-spec =
     tie.close
-    (tie.spec returns returns-2 returns-3 returns-4 returns-5 returns-6 returns-7 returns-8)
+    (tie.spec returns returns-2 returns-3 returns-4 returns-5 returns-6 returns-7 returns-8 returns-9 returns-10)

@@ -30,6 +30,12 @@ enum-told-4 c = search needs
 enum-told-5 : tie.Need-enum-told-5
 enum-told-5 c = search needs
 
+enum-told-6 : tie.Need-enum-told-6
+enum-told-6 c = search needs
+
+enum-told-7 : tie.Need-enum-told-7
+enum-told-7 c = search needs
+
 returns : tie.Need-returns
 returns c = kind-decides (c .before .before) _ (c .enum-told .given .1)
 
@@ -45,6 +51,12 @@ returns-4 c = kind-decides (c .before .before) _ (c .enum-told4 .given .1)
 returns-5 : tie.Need-returns-5
 returns-5 c = kind-decides (c .before .before) _ (c .enum-told5 .given .1)
 
+returns-6 : tie.Need-returns-6
+returns-6 c = kind-decides (c .before .before) _ (c .enum-told6 .given .1)
+
+returns-7 : tie.Need-returns-7
+returns-7 c = kind-decides (c .before .before) _ (c .enum-told7 .given .1)
+
 pub put-field-spec : {M : Type 1} → statement M
 put-field-spec =
     tie.close
@@ -55,8 +67,12 @@ put-field-spec =
     enum-told-3
     enum-told-4
     enum-told-5
+    enum-told-6
+    enum-told-7
     returns
     returns-2
     returns-3
     returns-4
-    returns-5)
+    returns-5
+    returns-6
+    returns-7)

@@ -3,16 +3,16 @@ use mathlib.Core.Path.{_≡_, sym, ap, _∙_}
 use Rattle.words.specs.Kind.{meant}
 use Rattle.words.specs.declared.Field.{Field as Kind}
 use mathlib.Core.Bool.{_||_}
-use Rattle.rules.specs.Fields.{Field, isData, isWildcard, templateField}
+use Rattle.rules.specs.Fields.{Field, isData, isWildcard, isBound, templateField}
 use borrow.Author.Needs.{needs}
 use Rattle.words.proofs.template_field.Statement.{statement}
 use Rattle.words.proofs.template_field.Tie as tie
 
 -- a word that `field_of` found to be f may stand in a template as f may
 kind-decides : (c : tie.After-field-of) (f : Kind) → c .field-of .result ≡ f
-    → (isData (meant f) || isWildcard (meant f)) ≡ templateField (c .before .args .w)
+    → (isData (meant f) || (isWildcard (meant f) || isBound (meant f))) ≡ templateField (c .before .args .w)
 unfolding templateField
-kind-decides c f e = ap (λ (x : Field). isData x || isWildcard x) (ap meant (sym e) ∙ c .field-of .ensures)
+kind-decides c f e = ap (λ (x : Field). isData x || (isWildcard x || isBound x)) (ap meant (sym e) ∙ c .field-of .ensures)
 
 field-of-requires : tie.Need-field-of-requires
 field-of-requires c κs = search needs
@@ -32,6 +32,12 @@ enum-told-4 c = search needs
 enum-told-5 : tie.Need-enum-told-5
 enum-told-5 c = search needs
 
+enum-told-6 : tie.Need-enum-told-6
+enum-told-6 c = search needs
+
+enum-told-7 : tie.Need-enum-told-7
+enum-told-7 c = search needs
+
 returns : tie.Need-returns
 returns c = kind-decides (c .before .before) _ (c .enum-told .given .1)
 
@@ -47,6 +53,12 @@ returns-4 c = kind-decides (c .before .before) _ (c .enum-told4 .given .1)
 returns-5 : tie.Need-returns-5
 returns-5 c = kind-decides (c .before .before) _ (c .enum-told5 .given .1)
 
+returns-6 : tie.Need-returns-6
+returns-6 c = kind-decides (c .before .before) _ (c .enum-told6 .given .1)
+
+returns-7 : tie.Need-returns-7
+returns-7 c = kind-decides (c .before .before) _ (c .enum-told7 .given .1)
+
 pub template-field-spec : {M : Type 1} → statement M
 template-field-spec =
     tie.close
@@ -57,8 +69,12 @@ template-field-spec =
     enum-told-3
     enum-told-4
     enum-told-5
+    enum-told-6
+    enum-told-7
     returns
     returns-2
     returns-3
     returns-4
-    returns-5)
+    returns-5
+    returns-6
+    returns-7)

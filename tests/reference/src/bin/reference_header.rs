@@ -14,7 +14,7 @@ const KIND: u64 = 1 << 32;
 /// A word that no field has.
 const BAD_WORD: u64 = u64::MAX;
 /// The kind that the header gives to bad words.
-const BAD_KIND: u32 = 4;
+const BAD_KIND: u32 = u32::MAX;
 const DEFAULTS: Pair = Pair {
     partition: 0,
     key: 0,
@@ -22,6 +22,14 @@ const DEFAULTS: Pair = Pair {
 
 fn message(number: u64) -> Option<Field> {
     u32::try_from(number).ok().map(Field::Message)
+}
+
+fn at_least(number: u64) -> Option<Field> {
+    u32::try_from(number).ok().map(Field::AtLeast)
+}
+
+fn at_most(number: u64) -> Option<Field> {
+    u32::try_from(number).ok().map(Field::AtMost)
 }
 
 fn partition(number: u32) -> Option<Field> {
@@ -32,22 +40,48 @@ fn key(number: i32) -> Option<Field> {
     key_in_range(number).then_some(Field::Key(number))
 }
 
-/// The word of a field, or that it is bad; and what the reference says of it as field and template.
-fn word_line(space: &mut [u64], what: &str, field: Option<Field>) {
-    let fields = [field.map_or(BAD_WORD, Field::word)];
-    let mut reference = Reference::correct();
-    let put = reference.put(space, 0, DEFAULTS, DEFAULTS, &fields);
+/// Puts an entry of one word.
+fn put(space: &mut [u64], word: u64) -> u32 {
+    Reference::correct()
+        .put(space, 0, DEFAULTS, DEFAULTS, &[word])
+        .code()
+}
+
+/// Takes by a template of one word.
+fn take(space: &mut [u64], word: u64) -> u32 {
     let query = Query {
         party: 0,
         pair: DEFAULTS,
-        fields: &fields,
+        fields: &[word],
     };
-    let take = reference.find(Operation::Take, space, query, &mut [0; MOST_FIELDS]);
+    Reference::correct()
+        .find(Operation::Take, space, query, &mut [0; MOST_FIELDS])
+        .code()
+}
+
+/// The word of a field, or that it is bad; and what the reference says of it as field and template.
+fn word_line(space: &mut [u64], what: &str, field: Option<Field>) {
+    let word = field.map_or(BAD_WORD, Field::word);
+    let (put, take) = (put(space, word), take(space, word));
     let word = match field {
         Some(field) => format!("word {}", field.word()),
         None => "bad".to_string(),
     };
-    println!("{what}: {word}, put {}, take {}", put.code(), take.code());
+    println!("{what}: {word}, put {put}, take {take}");
+}
+
+/// What a take by each bound answers while this field is there, and whether the field is left.
+fn bound_lines(space: &mut [u64], field: Field, number: u32) {
+    for (what, bound) in [
+        ("at least", Field::AtLeast(number)),
+        ("at most", Field::AtMost(number)),
+    ] {
+        let put = put(space, field.word());
+        let by_bound = take(space, bound.word());
+        let left = take(space, Field::Wildcard.word());
+        let word = field.word();
+        println!("of word {word}, put {put}, {what} {number}: take {by_bound}, left {left}");
+    }
 }
 
 fn kind_line(word: u64) {
@@ -56,6 +90,8 @@ fn kind_line(word: u64) {
         Some(Field::Partition(partition)) => (1, i64::from(partition)),
         Some(Field::Key(key)) => (2, i64::from(key)),
         Some(Field::Wildcard) => (3, 0),
+        Some(Field::AtLeast(number)) => (4, i64::from(number)),
+        Some(Field::AtMost(number)) => (5, i64::from(number)),
         None => (BAD_KIND, 0),
     };
     println!("of word {word}: kind {kind}, value {value}");
@@ -161,6 +197,8 @@ fn word_lines(space: &mut [u64]) {
     let powers = (0..64).flat_map(|bit| [(1 << bit) - 1, 1 << bit]);
     for number in powers.chain([u64::MAX]) {
         word_line(space, &format!("message {number}"), message(number));
+        word_line(space, &format!("at least {number}"), at_least(number));
+        word_line(space, &format!("at most {number}"), at_most(number));
     }
     for number in (0..=70)
         .chain((7..32).map(|bit| 1 << bit))
@@ -174,8 +212,35 @@ fn word_lines(space: &mut [u64]) {
     }
 }
 
+/// Every bound against every message of some, and against names that are as low.
+fn takes_by_bounds(space: &mut [u64]) {
+    let numbers = [
+        0,
+        1,
+        62,
+        63,
+        i32::MAX as u32,
+        1 << 31,
+        u32::MAX - 1,
+        u32::MAX,
+    ];
+    for number in numbers {
+        for message in numbers {
+            bound_lines(space, Field::Message(message), number);
+        }
+        for name in [
+            Field::Partition(0),
+            Field::Partition(LAST_PARTITION),
+            Field::Key(-LAST_KEY),
+            Field::Key(LAST_KEY),
+        ] {
+            bound_lines(space, name, number);
+        }
+    }
+}
+
 fn kind_lines() {
-    for kind in 0..=5 {
+    for kind in 0..=7 {
         let values = (0..=70)
             .chain((7..32).map(|bit| 1 << bit))
             .chain([KIND - 1]);
@@ -186,7 +251,7 @@ fn kind_lines() {
     let mut state = 88_172_645_463_325_252;
     for _ in 0..200 {
         kind_line(some_word(&mut state));
-        kind_line(some_word(&mut state) % (5 * KIND));
+        kind_line(some_word(&mut state) % (7 * KIND));
     }
 }
 
@@ -198,9 +263,10 @@ fn main() {
     let mut space = vec![0; WORDS];
     let wildcard = Field::Wildcard.word();
     println!("words {WORDS}, roster {ROSTER_WORDS}, fields {MOST_FIELDS}, parties {PARTIES}, live entries {LIMIT}, partitions to {LAST_PARTITION}, keys to {LAST_KEY}, the wildcard {wildcard}");
-    println!("kinds 0 1 2 3, bad {BAD_KIND}");
+    println!("kinds 0 1 2 3 4 5, bad {BAD_KIND}");
     open_for_all(&mut space);
     word_lines(&mut space);
+    takes_by_bounds(&mut space);
     kind_lines();
     for party in 0..=9 {
         for at in (0..=66).step_by(1 + party) {
