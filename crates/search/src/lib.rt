@@ -103,7 +103,8 @@ fn pair_of(op: Op) -> usize
     }
 }
 
-// M1, M3, M4: the row at that word has the count, and the pair. The partition first: it differs most often.
+// M1, M3, M4: the row at that word has the count, and the pair. The partition first, so that a row of another one is left at
+// once.
 fn pair_agrees(
     space: &[u64],
     at: usize,
