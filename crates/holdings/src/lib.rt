@@ -3,7 +3,7 @@ use words::Field;
 ghost use mathlib.Core.Path.{_≡_};
 ghost use mathlib.Core.Bool.{true};
 ghost use mathlib.Core.List.{map};
-ghost use Prim.Native.Nat.{_<_};
+ghost use Prim.Native.Nat.{_≤_, _<_};
 ghost use lib.ListN.{length};
 ghost use Rattle.rules.specs.Names.{withBit};
 ghost use Rattle.rules.specs.Fields.{field, nameIn, namesIn};
@@ -36,12 +36,13 @@ fn hold_name(space: &mut [u64], party: usize, w: u64)
 
 // C3: the party holds each name in the fields.
 pub fn hold_names(space: &mut [u64], party: usize, fields: &[u64])
-    requires { ⌜ (sound (now space) ≡ true) × (party < 8) ⌝ }
+    requires { ⌜ (sound (now space) ≡ true) × (party < 8) × (length (now fields) ≤ 8) ⌝ }
     ensures { λ _. ⌜ now (space .exit) ≡ encode (giveAll party (namesIn (now (fields .entry))) (decode (now (space .entry)))) ⌝ }
 {
+    let n = fields.len() as u32;
     let mut i = 0;
-    while i < fields.len() {
-        hold_name(space, party, fields[i]);
+    while i < n {
+        hold_name(space, party, fields[i as usize]);
         i += 1;
     }
 }

@@ -17,7 +17,11 @@ use Rattle.rules.proofs.ListLaws.{bool, passed, not-false, or-right}
 use Rattle.rules.proofs.Back.{sound-facts}
 use Rattle.audit.specs.Audited.{audited}
 use Rattle.audit.specs.declared.Finding.the-variants.{Unsound, Sound}
-use Rattle.refusals.specs.Verdicts.{verdictOf, verdict, firstTests, begun}
+use denote.Enum.Declared.{tagOf}
+use types.Run.{OneOf}
+use Rattle.refusals.specs.Verdicts.{verdictOf, verdict, firstTests, begun, admittedBy, boundsIn}
+use Rattle.refusals.proofs.Admission.{the-type}
+use Rattle.refusals.specs.declared.Admission.the-variants as admission
 use Rattle.refusals.specs.declared.Begun.the-variants as tests
 use Rattle.refusals.specs.declared.Verdict.{Verdict}
 use Rattle.refusals.specs.declared.Verdict.the-variants.{Passed, Refused}
@@ -89,6 +93,25 @@ verdict-passed ts e = go (firstThatApplies ts) e
     go : (o : Option ℕ) → Passed ≡ verdictOf o → o ≡ none
     go (some k) e = let z : _≡_ {A = ℕ} 0 1 = cc in absurd (omega arith)
     go none e = refl
+
+-- an admission, back to its verdict
+pub admitted-refused : (v : Verdict) (p : Bool) (n : ℕ) → admission.Refused n ≡ admittedBy v p → Refused n ≡ v
+admitted-refused (Refused k) p n e = let z : n ≡ k = cc in ap Refused z
+admitted-refused Passed true n e = let z : _≡_ {A = ℕ} 0 1 = cc in absurd (omega arith)
+admitted-refused Passed false n e = let z : _≡_ {A = ℕ} 0 1 = cc in absurd (omega arith)
+
+-- the tags are those of the cases besides Refused
+pub admitted-passed : (v : Verdict) (p : Bool) → OneOf (0 ∷ 1 ∷ []) (tagOf the-type (admittedBy v p)) → Passed ≡ v
+admitted-passed (Refused n) p k = absurd (refused k)
+  where
+    refused : _⊎_ (_≡_ {A = ℕ} 2 0) (_≡_ {A = ℕ} 2 1) → ⊥
+    refused (inl q) = omega arith
+    refused (inr q) = omega arith
+admitted-passed Passed p k = refl
+
+pub bounds-admitted : (p : Bool) → not (boundsIn (admittedBy Passed p)) ≡ p
+bounds-admitted true = refl
+bounds-admitted false = refl
 
 pub passes : Passed ≡ verdict []
 unfolding verdict

@@ -1,11 +1,13 @@
 -- What the tests of a call decide.
-use mathlib.Core.Bool.{not}
+use mathlib.Core.Bool.{Bool, true, false, not}
 use mathlib.Core.List.{List, [], _∷_}
 use mathlib.Core.Option.{Option, none, some}
 use Prim.Native.Nat.{ℕ}
 use lib.Dec.{ltb}
 use Rattle.rules.specs.Calls.{Table, firstThatApplies, badCount}
 use Rattle.rules.specs.Words.{sound}
+use Rattle.refusals.specs.declared.Admission.{Admission}
+use Rattle.refusals.specs.declared.Admission.the-variants as admission
 use Rattle.refusals.specs.declared.Begun.{Begun}
 use Rattle.refusals.specs.declared.Begun.the-variants as tests
 use Rattle.refusals.specs.declared.Verdict.{Verdict}
@@ -28,6 +30,21 @@ unfoldable pub begun : Option ℕ → ℕ → Begun
 begun none n = tests.Live n
 begun (some k) n = tests.Refused k
 
-abbrev pub refusalOf : Begun → Verdict
-refusalOf (tests.Live n) = Passed
-refusalOf (tests.Refused k) = Refused k
+abbrev pub refusalIn : Begun → ℕ
+refusalIn (tests.Live n) = 0
+refusalIn (tests.Refused k) = k
+
+-- where no test applies: by whether all fields of the template are plain
+abbrev pub admittedAs : Bool → Admission
+admittedAs true = admission.Plain
+admittedAs false = admission.Bounded
+
+-- R1 to R7: by the verdict, and whether all fields of the template are plain
+abbrev pub admittedBy : Verdict → Bool → Admission
+admittedBy (Refused n) p = admission.Refused n
+admittedBy Passed p = admittedAs p
+
+abbrev pub boundsIn : Admission → Bool
+boundsIn admission.Plain = false
+boundsIn admission.Bounded = true
+boundsIn (admission.Refused n) = false

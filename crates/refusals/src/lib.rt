@@ -13,10 +13,18 @@ ghost use Rattle.rules.specs.Matching.{pair, storedPair};
 ghost use Rattle.rules.specs.State.{holds, live};
 ghost use Rattle.rules.specs.Calls.{firstThatApplies, badPair, pairNames, putNames, seekNames, putTable, seekTable};
 ghost use Rattle.rules.specs.Words.{decode, sound, badRoster};
-ghost use Rattle.refusals.specs.Verdicts.{verdict, firstTests, begun, refusalOf};
+ghost use Rattle.words.specs.Kind.{plain};
+ghost use Rattle.refusals.specs.Verdicts.{verdict, firstTests, begun, refusalIn, admittedBy, admittedAs, boundsIn};
 
 pub enum Verdict {
     Passed,
+    Refused(u32),
+}
+
+// What becomes of a read or take: where it passes, the search is to know whether the template has bounds.
+pub enum Admission {
+    Plain,
+    Bounded,
     Refused(u32),
 }
 
@@ -40,7 +48,7 @@ pub fn of_put(
 {
     let begun = first_tests(space, party, fields);
     let Begun::Live(live) = begun else {
-        return refusal(begun);
+        return Verdict::Refused(refusal(begun));
     };
     let bad_read = bad_pair(rpart, rkey);
     let bad_take = bad_pair(tpart, tkey);
@@ -67,26 +75,49 @@ pub fn of_seek(
     key: i32,
     template: &[u64],
     room: usize,
-) -> Verdict
-    ensures { λ r. ⌜ r ≡ verdict ((not (sound (now (space .entry))), 1) ∷ seekTable (decode (now (space .entry))) party (pair partition key) (now (template .entry)) room) ⌝ }
+) -> Admission
+    ensures { λ r. ⌜ r ≡ admittedBy (verdict ((not (sound (now (space .entry))), 1) ∷ seekTable (decode (now (space .entry))) party (pair partition key) (now (template .entry)) room)) (all plain (now (template .entry))) ⌝ }
 {
     let begun = first_tests(space, party, template);
     let Begun::Live(_) = begun else {
-        return refusal(begun);
+        return Admission::Refused(refusal(begun));
     };
     if bad_pair(partition, key) {
-        return Verdict::Refused(4);
+        return Admission::Refused(4);
     }
-    if !template_fields(template) {
-        return Verdict::Refused(5);
+    let unbounded = plain_fields(template);
+    if !fields_ok(template, unbounded) {
+        return Admission::Refused(5);
     }
     if room < template.len() {
-        return Verdict::Refused(6);
+        return Admission::Refused(6);
     }
     if !seek_held(space, party, partition, key, template) {
-        return Verdict::Refused(7);
+        return Admission::Refused(7);
     }
-    Verdict::Passed
+    admitted(unbounded)
+}
+
+// The answer where no test refuses.
+fn admitted(unbounded: bool) -> Admission
+    ensures { λ r. ⌜ r ≡ admittedAs unbounded ⌝ }
+{
+    if unbounded {
+        Admission::Plain
+    } else {
+        Admission::Bounded
+    }
+}
+
+// F2: the template of a call that passed has bounds.
+pub fn has_bounds(admission: Admission) -> bool
+    ensures { λ r. ⌜ r ≡ boundsIn admission ⌝ }
+{
+    match admission {
+        Admission::Plain => false,
+        Admission::Bounded => true,
+        Admission::Refused(_) => false,
+    }
 }
 
 // R1 to R3
@@ -106,13 +137,13 @@ fn first_tests(space: &[u64], party: u32, fields: &[u64]) -> Begun
     Begun::Live(live)
 }
 
-// The verdict where the first tests refuse.
-fn refusal(begun: Begun) -> Verdict
-    ensures { λ r. ⌜ r ≡ refusalOf begun ⌝ }
+// The number where the first tests refuse.
+fn refusal(begun: Begun) -> u32
+    ensures { λ r. ⌜ r ≡ refusalIn begun ⌝ }
 {
     match begun {
-        Begun::Live(_) => Verdict::Passed,
-        Begun::Refused(number) => Verdict::Refused(number),
+        Begun::Live(_) => 0,
+        Begun::Refused(number) => number,
     }
 }
 
@@ -124,7 +155,34 @@ fn bad_pair(partition: u32, key: i32) -> bool
     (63 < partition) | !in_range
 }
 
-// R5
+// R5. Plain fields need no second look.
+fn fields_ok(template: &[u64], unbounded: bool) -> bool
+    requires { ⌜ (length (now template) ≤ 8) × (unbounded ≡ all plain (now template)) ⌝ }
+    ensures { λ r. ⌜ r ≡ all templateField (now (template .entry)) ⌝ }
+{
+    if unbounded {
+        return true;
+    }
+    template_fields(template)
+}
+
+// F2: no field is a bound, nor bad.
+fn plain_fields(template: &[u64]) -> bool
+    requires { ⌜ length (now template) ≤ 8 ⌝ }
+    ensures { λ r. ⌜ r ≡ all plain (now (template .entry)) ⌝ }
+{
+    let n = template.len() as u32;
+    let mut i = 0;
+    while i < n {
+        if !words::plain_field(template[i as usize]) {
+            return false;
+        }
+        i += 1;
+    }
+    true
+}
+
+// F4
 fn template_fields(template: &[u64]) -> bool
     requires { ⌜ length (now template) ≤ 8 ⌝ }
     ensures { λ r. ⌜ r ≡ all templateField (now (template .entry)) ⌝ }
@@ -170,9 +228,10 @@ fn seek_held(space: &[u64], party: u32, partition: u32, key: i32, template: &[u6
     let p = party as usize;
     let partitions = space[1 + p];
     let keys = space[9 + p];
-    let pair_held = pair_held(partitions, keys, partition, key);
-    let names_held = fields_held(partitions, keys, template);
-    pair_held & names_held
+    if !fields_held(partitions, keys, template) {
+        return false;
+    }
+    pair_held(partitions, keys, partition, key)
 }
 
 // R7: the names of a pair.

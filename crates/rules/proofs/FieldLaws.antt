@@ -10,7 +10,7 @@ use lib.Arith.{digits-div, digits-mod}
 use lib.Dec.{eqb, leb, ltb}
 use Rattle.rules.specs.Lists.{all}
 use Rattle.rules.specs.Names.{Name, partition, key, NameInRange, heldIn}
-use Rattle.rules.specs.Fields.{Field, message, name, wildcard, atLeast, atMost, bad, fieldOf, field, nameWord, isBound, nameIn, messageThat, agreesWith, fieldAgrees}
+use Rattle.rules.specs.Fields.{Field, message, name, wildcard, atLeast, atMost, bad, fieldOf, field, nameWord, isData, isWildcard, isBound, nameIn, messageThat, agreesWith, fieldAgrees}
 use Rattle.rules.specs.Claims.{Iff, NameWords, MessageWords, BoundsAgree}
 use Rattle.rules.proofs.ListLaws.{bool, and-left, and-right}
 
@@ -188,20 +188,37 @@ without-bound t f = by-field (field t)
     by-field (atMost v) h = absurd (true≢false h)
     by-field bad h = same (λ q. let z : _≡_ {A = ℕ} 0 1 = cc in absurd (omega arith))
 
--- a word up to the wildcard's is no bound, and the wildcard's is the only one that is not below it
-pub plain-test : (t f : ℕ) → t ≤ 12884901888 → fieldAgrees t f ≡ (leb 12884901888 t || eqb t f)
+-- a word that is no bound agrees with the same word, or as the wildcard's with anything: the code's test
+pub plain-test : (t f : ℕ) → isBound (field t) ≡ false → fieldAgrees t f ≡ (eqb t 12884901888 || eqb t f)
 unfolding field fieldAgrees
-plain-test t f h = go (bool (leb 12884901888 t))
+plain-test t f h = go (bool (eqb t 12884901888))
   where
-    go : (leb 12884901888 t ≡ true) ⊎ (leb 12884901888 t ≡ false) → fieldAgrees t f ≡ (leb 12884901888 t || eqb t f)
-    go (inl e) = let l = leb-true 12884901888 t e in let same : t ≡ 12884901888 = omega arith in rw same
+    go : (eqb t 12884901888 ≡ true) ⊎ (eqb t 12884901888 ≡ false) → fieldAgrees t f ≡ (eqb t 12884901888 || eqb t f)
+    go (inl e) = let same : t ≡ 12884901888 = eqb-true t 12884901888 e in rw same
     go (inr e) =
-        let l = leb-false 12884901888 t e in
         let split : t / 4294967296 * 4294967296 + t % 4294967296 ≡ t = div-add-mod' t 4294967296 in
         rw e
-        (by-kind (λ x. agreesWith x t f ≡ eqb t f) (t / 4294967296) (t % 4294967296)
-        (λ k. refl) (λ k r. refl) (λ k r. refl)
-        (λ k v. absurd (omega (arith, split)))
-        (λ k. absurd (omega (arith, split)))
-        (λ k. absurd (omega (arith, split)))
-        refl)
+        (by-kind (λ x. isBound x ≡ false → agreesWith x t f ≡ eqb t f) (t / 4294967296) (t % 4294967296)
+        (λ k b. refl) (λ k r b. refl) (λ k r b. refl)
+        (λ k v b. let same : t ≡ 12884901888 = omega (arith, split) in absurd (true≢false (sym (eq-eqb t 12884901888 same) ∙ e)))
+        (λ k b. absurd (true≢false b))
+        (λ k b. absurd (true≢false b))
+        (λ b. refl)
+        h)
+
+-- a template's field that is data or the wildcard is no bound, and a template may carry it
+pub no-bound : (x : Field) → (isData x || isWildcard x) ≡ true → isBound x ≡ false
+no-bound (message v) h = refl
+no-bound (name n) h = refl
+no-bound wildcard h = refl
+no-bound (atLeast v) h = sym h
+no-bound (atMost v) h = sym h
+no-bound bad h = refl
+
+pub data-carried : (x : Field) → (isData x || isWildcard x) ≡ true → (isData x || (isWildcard x || isBound x)) ≡ true
+data-carried (message v) h = refl
+data-carried (name n) h = refl
+data-carried wildcard h = refl
+data-carried (atLeast v) h = refl
+data-carried (atMost v) h = refl
+data-carried bad h = h

@@ -54,6 +54,10 @@ module _ {A : Type 0} where
   all-true f [] e = tt
   all-true f (x ∷ l) e = (and-left (f x) (all f l) e, all-true f l (and-right (f x) (all f l) e))
 
+  pub all-implied : (f h : A → Bool) → ((x : A) → f x ≡ true → h x ≡ true) → (l : List A) → all f l ≡ true → all h l ≡ true
+  all-implied f h imp [] e = refl
+  all-implied f h imp (x ∷ l) e = rw (imp x (and-left (f x) (all f l) e)) (all-implied f h imp l (and-right (f x) (all f l) e))
+
   pub all-same : (f h : A → Bool) → ((x : A) → f x ≡ h x) → (l : List A) → all f l ≡ all h l
   all-same f h e [] = refl
   all-same f h e (x ∷ l) = rw (e x, all-same f h e l)

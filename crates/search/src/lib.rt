@@ -26,18 +26,21 @@ pub enum Found {
 }
 
 // M5: left at the first row whose fields all agree, and each row at the first field that does not. The row's first word
-// goes along with the row, which spares a product for each. Whether the template has bounds is asked once, and not for each field.
-pub fn search(space: &[u64], op: Op, partition: u32, cokey: u32, template: &[u64]) -> Found
-    requires { ⌜ (sound (now space) ≡ true) × (cokey ≤ 62) × (length (now template) ≤ 8) ⌝ }
+// goes along with the row, which spares a product for each. Whoever tested the template knows whether it has bounds.
+pub fn search(
+    space: &[u64],
+    op: Op,
+    partition: u32,
+    cokey: u32,
+    template: &[u64],
+    bounded: bool,
+) -> Found
+    requires { ⌜ (sound (now space) ≡ true) × (cokey ≤ 62) × (length (now template) ≤ 8) × (not bounded ≡ true → all plain (now template) ≡ true) ⌝ }
     ensures { λ r. ⌜ r ≡ place (matches (meant op) (pair partition (coStored cokey)) (now (template .entry))) (decode (now (space .entry)) .entries) ⌝ }
 {
     let pair = pair_of(op);
     let live = space[0] as u32;
-    if live == 0 {
-        return Found::Nothing;
-    }
     let count = template.len() as u32;
-    let bounded = has_bounds(template);
     let mut row = 0;
     let mut word = 17u32;
     'rows: while row < live {
@@ -65,22 +68,6 @@ pub fn search(space: &[u64], op: Op, partition: u32, cokey: u32, template: &[u64
     }
 }
 
-// F2: some word is above the wildcard's, as those of the bounds are.
-fn has_bounds(template: &[u64]) -> bool
-    requires { ⌜ length (now template) ≤ 8 ⌝ }
-    ensures { λ r. ⌜ not r ≡ all plain (now (template .entry)) ⌝ }
-{
-    let n = template.len() as u32;
-    let mut i = 0;
-    while i < n {
-        if 12884901888 < template[i as usize] {
-            return true;
-        }
-        i += 1;
-    }
-    false
-}
-
 // M2, by the quicker test where no word is a bound.
 fn agrees(t: u64, f: u64, bounded: bool) -> bool
     requires { ⌜ (not bounded ≡ true → plain t ≡ true) ⌝ }
@@ -103,8 +90,7 @@ fn pair_of(op: Op) -> usize
     }
 }
 
-// M1, M3, M4: the row at that word has the count, and the pair. The partition first, so that a row of another one is left at
-// once.
+// M1, M3, M4: the row at that word has the count, and the pair.
 fn pair_agrees(
     space: &[u64],
     at: usize,
@@ -116,8 +102,8 @@ fn pair_agrees(
     requires { ⌜ (at + 14 ≤ length (now space)) × (pair ≤ 3) × SmallAt (now space) at pair ⌝ }
     ensures { λ r. ⌜ r ≡ pairAt (now (space .entry)) at pair partition cokey count ⌝ }
 {
-    let partitions = space[at + pair] as u32 == partition;
     let fields = space[at + 5] as u32 == count;
+    let partitions = space[at + pair] as u32 == partition;
     let keys = space[at + (pair + 1)] as u32 == cokey;
-    partitions & (fields & keys)
+    fields & (partitions & keys)
 }

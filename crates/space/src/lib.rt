@@ -1,4 +1,5 @@
 // The four calls of the space: open, put, read and take.
+use refusals::Admission;
 use refusals::Verdict;
 use search::Found;
 use search::Op;
@@ -120,12 +121,14 @@ fn seek(
     ensures { λ r. ⌜ r ≡ soughtIn (now (space .entry)) (place.meant op) party (pair partition key) (now (fields .entry)) (length (now (result .entry))) ⌝ }
     ensures { λ r. ⌜ (now (space .exit), now (result .exit)) ≡ delivered r party (length (now (fields .entry))) (now (space .entry)) (now (result .entry)) ⌝ }
 {
-    let verdict = refusals::of_seek(space, party, partition, key, fields, result.len());
-    if let Verdict::Refused(number) = verdict {
+    let template = &fields[0..];
+    let admission = refusals::of_seek(space, party, partition, key, template, result.len());
+    if let Admission::Refused(number) = admission {
         return Sought::Refused(number);
     }
+    let bounded = refusals::has_bounds(admission);
     let cokey = words::stored_co_key(key);
-    let Found::At(row) = search::search(space, op, partition, cokey, fields) else {
+    let Found::At(row) = search::search(space, op, partition, cokey, template, bounded) else {
         return Sought::Nothing;
     };
     let n = fields.len();

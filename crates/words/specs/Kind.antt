@@ -1,7 +1,6 @@
--- The code's field kinds, as the fields that they stand for, and the words below those of the bounds.
-use mathlib.Core.Bool.{Bool}
+-- The code's field kinds, as the fields that they stand for, and the fields of a template that are no bounds.
+use mathlib.Core.Bool.{Bool, _||_}
 use Prim.Native.Nat.{ℕ}
-use lib.Dec.{leb}
 use Rattle.rules.specs.Names.{partition, key}
 use Rattle.rules.specs.Fields as fields
 use Rattle.words.specs.declared.Field.{Field}
@@ -17,6 +16,6 @@ meant (AtLeast v) = fields.atLeast v
 meant (AtMost v) = fields.atMost v
 meant Bad = fields.bad
 
--- F2: no word above the wildcard's, 3 × 2^32, so no bound
-abbrev pub plain : ℕ → Bool
-plain t = leb t 12884901888
+-- F4: what a template may carry, but for the bounds
+unfoldable pub plain : ℕ → Bool
+plain w = fields.isData (fields.field w) || fields.isWildcard (fields.field w)

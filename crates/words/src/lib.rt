@@ -57,7 +57,7 @@ pub fn put_field(w: u64) -> bool
         Field::Partition(_) => true,
         Field::Key(_) => true,
         Field::Wildcard => false,
-        Field::AtLeast(_) => false,
+        Field::AtLeast(_) => false, // bounds ask, and are not put
         Field::AtMost(_) => false,
         Field::Bad => false,
     }
@@ -75,6 +75,22 @@ pub fn template_field(w: u64) -> bool
         Field::Wildcard => true,
         Field::AtLeast(_) => true,
         Field::AtMost(_) => true,
+        Field::Bad => false,
+    }
+}
+
+// F2: a field of a template that is no bound.
+pub fn plain_field(w: u64) -> bool
+    ensures { λ r. ⌜ r ≡ plain w ⌝ }
+{
+    let f = field_of(w);
+    match f {
+        Field::Message(_) => true,
+        Field::Partition(_) => true,
+        Field::Key(_) => true,
+        Field::Wildcard => true,
+        Field::AtLeast(_) => false, // a bound is tested by its range
+        Field::AtMost(_) => false,
         Field::Bad => false,
     }
 }
@@ -99,9 +115,6 @@ pub fn field_held(partitions: u64, keys: u64, w: u64) -> bool
 pub fn field_agrees(t: u64, f: u64) -> bool
     ensures { λ r. ⌜ r ≡ fieldAgrees t f ⌝ }
 {
-    if t <= 12884901888 {
-        return plain_agrees(t, f);
-    }
     let kind = field_of(t);
     match kind {
         Field::Message(_) => t == f,
@@ -114,12 +127,12 @@ pub fn field_agrees(t: u64, f: u64) -> bool
     }
 }
 
-// M2 for a word up to the wildcard's, 3 × 2^32, which is no bound. The first comparison needs only the upper half.
+// M2 for a field that is no bound: the wildcard's word is 3 × 2^32.
 pub fn plain_agrees(t: u64, f: u64) -> bool
     requires { ⌜ plain t ≡ true ⌝ }
     ensures { λ r. ⌜ r ≡ fieldAgrees t f ⌝ }
 {
-    (12884901888 <= t) | (t == f)
+    (t == 12884901888) | (t == f)
 }
 
 // L2: no word has a bit past 63.

@@ -14,11 +14,11 @@ use Rattle.holdings.proofs.hold_names.Statement.{statement}
 use Rattle.holdings.proofs.hold_names.Tie as tie
 
 abbrev Inv-loop : tie.InvT-loop
-Inv-loop space₀ party fields i₀ space i =
+Inv-loop space₀ party fields n i₀ space i =
     (i ≤ length fields) × (length space ≡ length space₀) × (space ≡ encode (giveAll party (namesIn (take i fields)) (decode space₀)))
 
 abbrev μ-loop : tie.MeasureT-loop
-μ-loop space₀ party fields i₀ space i = length fields - i
+μ-loop space₀ party fields n i₀ space i = length fields - i
 
 -- the places of the walk, each by its way to the one before it: before the loop, a turn, its field read, and its name held
 abbrev loop-start : tie.After-shared-slice-known Inv-loop μ-loop → tie.Start Inv-loop μ-loop
@@ -33,8 +33,14 @@ field-turn c = c .before .before .before
 abbrev end-held : tie.After-slice-known2 Inv-loop μ-loop → tie.After-hold-name Inv-loop μ-loop
 end-held c = c .before .before
 
+cast-n : tie.Need-cast-n Inv-loop μ-loop
+cast-n c = search needs
+
 loop-holds : tie.Need-loop-holds Inv-loop μ-loop
 loop-holds c = (search needs, search needs, sym (encode-decode _ (loop-start c .pre .0)))
+
+cast-hold-name : tie.Need-cast-hold-name Inv-loop μ-loop
+cast-hold-name c = search needs
 
 mul-hold-name : tie.Need-mul-hold-name Inv-loop μ-loop
 mul-hold-name c = search needs
@@ -79,7 +85,9 @@ hold-names-spec =
     (tie.spec
     Inv-loop
     μ-loop
+    cast-n
     loop-holds
+    cast-hold-name
     mul-hold-name
     shared-slice-read-hold-name
     hold-name-requires

@@ -17,8 +17,9 @@ use Rattle.rules.specs.Calls.{Table, firstThatApplies, badPair, putNames, putTa
 use Rattle.rules.specs.Words.{decode, sound}
 use Rattle.rules.proofs.ListLaws.{or-left, or-right}
 use Rattle.rules.proofs.KeyLaws.{pair-in-range}
-use Rattle.refusals.specs.Verdicts.{verdict, firstTests, refusalOf}
+use Rattle.refusals.specs.Verdicts.{verdict, firstTests, refusalIn}
 use Rattle.refusals.specs.declared.Verdict.{Verdict}
+use Rattle.refusals.specs.declared.Verdict.the-variants.{Refused}
 use Rattle.refusals.proofs.Tables.{decides, leaves, passes, first-decides, first-leaves, live-by, first-passed}
 use borrow.Author.Needs.{needs}
 use Rattle.refusals.proofs.of_put.Statement.{statement}
@@ -129,7 +130,7 @@ unfolding whole
 returns c =
     let told = c .before .enum-told .given .1 in
     let tests = refused-tests c in
-    c .refusal .ensures ∙ ap refusalOf told ∙ first-decides _ _ _ _ _ (begins (tests-start tests)) _ _ (sym told ∙ tests .first-tests .ensures)
+    ap Refused (c .refusal .ensures ∙ ap refusalIn told) ∙ first-decides _ _ _ _ _ (begins (tests-start tests)) _ _ (sym told ∙ tests .first-tests .ensures)
 
 bad-pair-requires : tie.Need-bad-pair-requires
 bad-pair-requires c κs = search needs

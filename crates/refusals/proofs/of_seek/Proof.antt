@@ -1,4 +1,4 @@
--- `of_seek` meets its contract: past each test that fails, the rest of the table decides.
+-- `of_seek` meets its contract: past each test that fails, the rest of the table decides, and by its verdict the call is admitted.
 use Prim.Native.Nat.{ℕ}
 use mathlib.Core.Path.{_≡_, refl, sym, ap, _∙_}
 use mathlib.Core.Bool.{Bool, false, not}
@@ -16,8 +16,11 @@ use Rattle.rules.specs.State.{holds}
 use Rattle.rules.specs.Calls.{Table, firstThatApplies, badPair, seekNames, seekTable}
 use Rattle.rules.specs.Words.{decode, sound}
 use Rattle.rules.proofs.KeyLaws.{pair-in-range}
-use Rattle.refusals.specs.Verdicts.{verdict, firstTests, refusalOf}
+use Rattle.words.specs.Kind.{plain}
+use Rattle.refusals.specs.Verdicts.{verdict, firstTests, refusalIn, admittedBy}
+use Rattle.refusals.specs.declared.Admission.{Admission}
 use Rattle.refusals.specs.declared.Verdict.{Verdict}
+use Rattle.refusals.specs.declared.Verdict.the-variants.{Passed, Refused}
 use Rattle.refusals.proofs.Tables.{decides, leaves, passes, first-decides, first-leaves, live-by, first-passed}
 use borrow.Author.Needs.{needs}
 use Rattle.refusals.proofs.of_seek.Statement.{statement}
@@ -36,8 +39,11 @@ begun-tests c = c .before .before
 abbrev pair-begun : tie.After-bad-pair → tie.After-enum-told
 pair-begun c = c .before
 
-abbrev fields-pair : tie.After-template-fields → tie.Else1
-fields-pair c = c .before
+abbrev plain-pair : tie.After-plain-fields → tie.Else1
+plain-pair c = c .before
+
+abbrev fields-pair : tie.After-fields-ok → tie.Else1
+fields-pair c = plain-pair (c .before)
 
 abbrev held-fields : tie.After-seek-held → tie.Else2
 held-fields c = c .before .before
@@ -48,7 +54,7 @@ begun-start c = tests-start (begun-tests c)
 abbrev pair-start : tie.After-bad-pair → tie.Start
 pair-start c = begun-start (pair-begun c)
 
-abbrev fields-start : tie.After-template-fields → tie.Start
+abbrev fields-start : tie.After-fields-ok → tie.Start
 fields-start c = pair-start (fields-pair c .before)
 
 abbrev held-start : tie.After-seek-held → tie.Start
@@ -62,6 +68,10 @@ whole : tie.Start → Table
 whole s =
     let a = s .args in
     (not (sound (a .space .now)), 1) ∷ seekTable (decode (a .space .now)) (a .party) (pair (a .partition) (a .key)) (a .template .now) (a .room)
+
+-- the answer that a verdict makes
+abbrev admits : tie.Start → Verdict → Admission
+admits s v = admittedBy v (all plain (s .args .template .now))
 
 -- past k tests, the rest of the table decides
 abbrev Past : ℕ → tie.Start → Type 0
@@ -87,7 +97,7 @@ past-4 c v e = past-3 (pair-begun (c .before)) v (leaves _ 4 _ v (pair-is (c .be
 
 past-5 : (c : tie.Else2) → Past 5 (fields-start (c .before))
 unfolding whole seekTable
-past-5 c v e = past-4 (fields-pair (c .before)) v (leaves _ 5 _ v (ap not (sym (c .before .template-fields .ensures)) ∙ c .if2 .left) e)
+past-5 c v e = past-4 (fields-pair (c .before)) v (leaves _ 5 _ v (ap not (sym (c .before .fields-ok .ensures)) ∙ c .if2 .left) e)
 
 past-6 : (c : tie.Else3) → Past 6 (fields-start (c .before .before))
 unfolding whole seekTable
@@ -113,25 +123,32 @@ unfolding whole
 returns c =
     let told = c .before .enum-told2 .given .1 in
     let tests = refused-tests c in
-    c .refusal .ensures ∙ ap refusalOf told ∙ first-decides _ _ _ _ _ (begins (tests-start tests)) _ _ (sym told ∙ tests .first-tests .ensures)
+    ap (admits (tests-start tests))
+    (ap Refused (c .refusal .ensures ∙ ap refusalIn told)
+    ∙ first-decides _ _ _ _ _ (begins (tests-start tests)) _ _ (sym told ∙ tests .first-tests .ensures))
 
 bad-pair-requires : tie.Need-bad-pair-requires
 bad-pair-requires c κs = search needs
 
 returns-2 : tie.Need-returns-2
 unfolding whole seekTable
-returns-2 c = past-3 (pair-begun (c .before)) _ (decides _ 4 _ (pair-is (c .before) ∙ c .if1 .taken))
+returns-2 c = ap (admits (pair-start (c .before))) (past-3 (pair-begun (c .before)) (Refused 4) (decides _ 4 _ (pair-is (c .before) ∙ c .if1 .taken)))
 
-template-fields-requires : tie.Need-template-fields-requires
-template-fields-requires c κs = first-passed _ _ _ (begun-is (pair-begun (c .before))) .2
+plain-fields-requires : tie.Need-plain-fields-requires
+plain-fields-requires c κs = first-passed _ _ _ (begun-is (pair-begun (c .before))) .2
+
+fields-ok-requires : tie.Need-fields-ok-requires
+fields-ok-requires c κs = (first-passed _ _ _ (begun-is (pair-begun (plain-pair c .before))) .2, c .plain-fields .ensures)
 
 returns-3 : tie.Need-returns-3
 unfolding whole seekTable
-returns-3 c = past-4 (fields-pair (c .before)) _ (decides _ 5 _ (ap not (sym (c .before .template-fields .ensures)) ∙ c .if2 .taken))
+returns-3 c =
+    ap (admits (fields-start (c .before)))
+    (past-4 (fields-pair (c .before)) (Refused 5) (decides _ 5 _ (ap not (sym (c .before .fields-ok .ensures)) ∙ c .if2 .taken)))
 
 returns-4 : tie.Need-returns-4
 unfolding whole seekTable
-returns-4 c = past-5 (c .before) _ (decides _ 6 _ (lt-ltb _ _ (c .if3 .taken)))
+returns-4 c = ap (admits (fields-start (c .before .before))) (past-5 (c .before) (Refused 6) (decides _ 6 _ (lt-ltb _ _ (c .if3 .taken))))
 
 seek-held-requires : tie.Need-seek-held-requires
 seek-held-requires c κs =
@@ -143,11 +160,20 @@ seek-held-requires c κs =
 
 returns-5 : tie.Need-returns-5
 unfolding whole seekTable
-returns-5 c = past-6 (c .before .before) _ (decides _ 7 _ (ap not (held-is (c .before)) ∙ c .if4 .taken))
+returns-5 c =
+    ap (admits (held-start (c .before))) (past-6 (c .before .before) (Refused 7) (decides _ 7 _ (ap not (held-is (c .before)) ∙ c .if4 .taken)))
+
+admitted-requires : tie.Need-admitted-requires
+admitted-requires c κs = search needs
 
 returns-6 : tie.Need-returns-6
 unfolding whole seekTable
-returns-6 c = past-6 (c .before .before) _ (leaves _ 7 _ _ (ap not (held-is (c .before)) ∙ c .if4 .left) passes)
+returns-6 c =
+    let held = c .before .before in
+    let fields = held-fields held .before in
+    c .admitted .ensures
+    ∙ ap (admittedBy Passed) (fields .before .plain-fields .ensures)
+    ∙ ap (admits (held-start held)) (past-6 (held .before) Passed (leaves _ 7 _ _ (ap not (held-is held) ∙ c .before .if4 .left) passes))
 
 pub of-seek-spec : {M : Type 1} → statement M
 of-seek-spec =
@@ -160,9 +186,11 @@ of-seek-spec =
     returns
     bad-pair-requires
     returns-2
-    template-fields-requires
+    plain-fields-requires
+    fields-ok-requires
     returns-3
     returns-4
     seek-held-requires
     returns-5
+    admitted-requires
     returns-6)

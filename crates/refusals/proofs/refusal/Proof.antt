@@ -1,4 +1,4 @@
--- `refusal` meets its contract: each arm answers as `refusalOf` does of what was begun.
+-- `refusal` meets its contract: each arm answers as `refusalIn` does of what was begun.
 use mathlib.Core.Path.{refl}
 use borrow.Author.Needs.{needs}
 use Rattle.refusals.proofs.refusal.Statement.{statement}

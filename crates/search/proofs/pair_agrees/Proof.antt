@@ -1,32 +1,10 @@
 -- `pair_agrees` meets its contract: the three words are in range, so that 32 bits of each are the word that `pairAt` tests.
 use Rattle.search.specs.Pairs.{pairAt}
-use mathlib.Core.Path.{_≡_, refl}
-use mathlib.Core.Bool.{Bool, true, false, _&&_}
-use Prim.Native.Nat.{_+_}
+use mathlib.Core.Path.{refl}
 use native.Mathlib.Omega.{arith}
-use lib.Dec.{eqb}
-use lib.ListN.{getD}
 use borrow.Author.Needs.{needs}
 use Rattle.search.proofs.pair_agrees.Statement.{statement}
 use Rattle.search.proofs.pair_agrees.Tie as tie
-
--- the code tests the partition first, and `pairAt` the count
-partition-first : (count partition key : Bool) → (partition && (count && key)) ≡ (count && (partition && key))
-partition-first true partition key = refl
-partition-first false true key = refl
-partition-first false false key = refl
-
-add-partitions : tie.Need-add-partitions
-add-partitions c = search needs
-
-mul-partitions : tie.Need-mul-partitions
-mul-partitions c = search needs
-
-shared-slice-read-partitions : tie.Need-shared-slice-read-partitions
-shared-slice-read-partitions c = search needs
-
-cast-partitions : tie.Need-cast-partitions
-cast-partitions c = omega (arith, c .before .pre .2 .partition)
 
 add-fields : tie.Need-add-fields
 add-fields c = search needs
@@ -38,7 +16,19 @@ shared-slice-read-fields : tie.Need-shared-slice-read-fields
 shared-slice-read-fields c = search needs
 
 cast-fields : tie.Need-cast-fields
-cast-fields c = omega (arith, c .before .before .pre .2 .count)
+cast-fields c = omega (arith, c .before .pre .2 .count)
+
+add-partitions : tie.Need-add-partitions
+add-partitions c = search needs
+
+mul-partitions : tie.Need-mul-partitions
+mul-partitions c = search needs
+
+shared-slice-read-partitions : tie.Need-shared-slice-read-partitions
+shared-slice-read-partitions c = search needs
+
+cast-partitions : tie.Need-cast-partitions
+cast-partitions c = omega (arith, c .before .before .pre .2 .partition)
 
 add-keys : tie.Need-add-keys
 add-keys c = search needs
@@ -57,23 +47,20 @@ cast-keys c = omega (arith, c .before .before .before .pre .2 .key)
 
 returns : tie.Need-returns
 unfolding pairAt
-returns c =
-    let a = c .before .before .before .args in
-    let ws = a .space .now in
-    partition-first (eqb (getD ws (a .at + 5) 0) (a .count)) (eqb (getD ws (a .at + a .pair) 0) (a .partition)) (eqb (getD ws (a .at + (a .pair + 1)) 0) (a .cokey))
+returns c = refl
 
 pub pair-agrees-spec : {M : Type 1} → statement M
 pair-agrees-spec =
     tie.close
     (tie.spec
-    add-partitions
-    mul-partitions
-    shared-slice-read-partitions
-    cast-partitions
     add-fields
     mul-fields
     shared-slice-read-fields
     cast-fields
+    add-partitions
+    mul-partitions
+    shared-slice-read-partitions
+    cast-partitions
     add-keys
     add-keys-2
     mul-keys

@@ -50,30 +50,24 @@ record Fields (space template : List ℕ) (row word i : ℕ) : Type 0 where
   rest : fieldsAgree template (entryOn space word .fields) ≡ fieldsAgree (drop i template) (drop i (entryOn space word .fields))
 
 abbrev Inv-fields : tie.InvT-fields
-Inv-fields space partition cokey template pair live count bounded row word at i₀ i = Fields space template row word i
+Inv-fields space partition cokey template bounded pair live count row word at i₀ i = Fields space template row word i
 
 abbrev μ-fields : tie.MeasureT-fields
-μ-fields space partition cokey template pair live count bounded row word at i₀ i = length template - i
+μ-fields space partition cokey template bounded pair live count row word at i₀ i = length template - i
 
 abbrev Inv-rows : tie.InvT-rows
-Inv-rows space partition cokey template pair live count bounded row₀ word₀ row word = Rows space partition cokey template pair live row word
+Inv-rows space partition cokey template bounded pair live count row₀ word₀ row word = Rows space partition cokey template pair live row word
 
 abbrev μ-rows : tie.MeasureT-rows
-μ-rows space partition cokey template pair live count bounded row₀ word₀ row word = live - row
+μ-rows space partition cokey template bounded pair live count row₀ word₀ row word = live - row
 
--- the places of the walk, each by its way to the one before it: the pair's offset, the template's test, a row, its pair's test, a field's test,
+-- the places of the walk, each by its way to the one before it: the pair's offset, a row, its pair's test, a field's test,
 -- and where the loop over the fields is left
 abbrev pair-start : tie.After-pair-of Inv-fields μ-fields Inv-rows μ-rows → tie.Start Inv-fields μ-fields Inv-rows μ-rows
 pair-start c = c .before .before .before
 
-abbrev bounds-pair : tie.After-has-bounds Inv-fields μ-fields Inv-rows μ-rows → tie.After-pair-of Inv-fields μ-fields Inv-rows μ-rows
-bounds-pair c = c .before .before .before
-
-abbrev row-bounds : tie.At-rows Inv-fields μ-fields Inv-rows μ-rows → tie.After-has-bounds Inv-fields μ-fields Inv-rows μ-rows
-row-bounds c = c .before
-
 abbrev row-pair : tie.At-rows Inv-fields μ-fields Inv-rows μ-rows → tie.After-pair-of Inv-fields μ-fields Inv-rows μ-rows
-row-pair c = bounds-pair (row-bounds c)
+row-pair c = c .before .before
 
 abbrev row-start : tie.At-rows Inv-fields μ-fields Inv-rows μ-rows → tie.Start Inv-fields μ-fields Inv-rows μ-rows
 row-start c = pair-start (row-pair c)
@@ -121,28 +115,19 @@ shared-slice-read-live c = omega (arith, sound-facts _ (pair-start (c .before) .
 cast-live : tie.Need-cast-live Inv-fields μ-fields Inv-rows μ-rows
 cast-live c = omega (arith, sound-facts _ (pair-start (c .before) .pre .0) .count)
 
-returns : tie.Need-returns Inv-fields μ-fields Inv-rows μ-rows
-returns c =
-    let a = pair-start (c .before .before) .args in
-    let none : getD (a .space .now) 0 0 ≤ 0 = omega (arith, c .if1 .taken) in
-    let m = sought (a .op) (a .partition) (a .cokey) (a .template .now) in
-    sym (past-none _ ∙ over m 0 (decode (a .space .now) .entries) _ (decode-len (a .space .now)) none)
-
 cast-count : tie.Need-cast-count Inv-fields μ-fields Inv-rows μ-rows
 cast-count c = search needs
 
-has-bounds-requires : tie.Need-has-bounds-requires Inv-fields μ-fields Inv-rows μ-rows
-has-bounds-requires c κs = pair-start (c .before .before) .pre .2
-
 rows-holds : tie.Need-rows-holds Inv-fields μ-fields Inv-rows μ-rows
 rows-holds c =
-    let start = pair-start (bounds-pair c) in
+    let pair = c .before in
+    let start = pair-start pair in
     let f = sound-facts _ (start .pre .0) in
     record {
       isSound = start .pre .0;
       size = f .len;
       few = f .count;
-      pairBound = offset-le (start .args .op) _ (bounds-pair c .pair-of .ensures);
+      pairBound = offset-le (start .args .op) _ (pair .pair-of .ensures);
       keyBound = start .pre .1;
       bound = omega arith;
       here = refl;
@@ -159,7 +144,7 @@ pair-agrees-requires c κs =
 fields-holds : tie.Need-fields-holds Inv-fields μ-fields Inv-rows μ-rows
 fields-holds c =
     let row = live-at (test-row (c .before)) in
-    let same = count-on row _ _ _ _ _ (c .before .pair-agrees .ensures) (c .if2 .taken) in
+    let same = count-on row _ _ _ _ _ (c .before .pair-agrees .ensures) (c .if1 .taken) in
     record { live = row; same = same; few = rw same at (row .ok .few); bound = omega arith; rest = refl }
 
 cast-k : tie.Need-cast-k Inv-fields μ-fields Inv-rows μ-rows
@@ -188,9 +173,9 @@ shared-slice-read-agrees-2 c = search needs
 agrees-requires : tie.Need-agrees-requires Inv-fields μ-fields Inv-rows μ-rows
 agrees-requires c κs =
     let turn = read-turn c in
-    let row = turn-row turn in
-    let template = row-start row .args .template .now in
-    λ q. All-at (λ t. plain t ≡ true) template (all-true plain template (sym (row-bounds row .has-bounds .ensures) ∙ q)) _ (turn .fields-test .taken)
+    let start = row-start (turn-row turn) in
+    let template = start .args .template .now in
+    λ q. All-at (λ t. plain t ≡ true) template (all-true plain template (start .pre .3 q)) _ (turn .fields-test .taken)
 
 add-i : tie.Need-add-i Inv-fields μ-fields Inv-rows μ-rows
 add-i c = search needs
@@ -208,7 +193,7 @@ fields-again c =
       few = inv .few;
       bound = omega arith;
       rest = inv .rest
-          ∙ fields-on (inv .live) _ _ _ true (turn .fields-test .taken) (inv .same) (c .before .agrees .ensures) (not-false _ (c .if3 .left));
+          ∙ fields-on (inv .live) _ _ _ true (turn .fields-test .taken) (inv .same) (c .before .agrees .ensures) (not-false _ (c .if2 .left));
     }
 
 add-row : tie.Need-add-row Inv-fields μ-fields Inv-rows μ-rows
@@ -239,17 +224,17 @@ rows-again c =
           (⊎-elim
           (λ w.
           let left : tie.Left-fields Inv-fields μ-fields Inv-rows μ-rows =
-          record { before = record { before = record { before = c .before; if2 = w .0 }; fields = w .1 }; fields-test = w .2 } in
+          record { before = record { before = record { before = c .before; if1 = w .0 }; fields = w .1 }; fields-test = w .2 } in
           match-on live op _ _ _ _ _ true false e (inv .keyBound) (c .before .pair-agrees .ensures) (w .0 .taken) (agreed left ∙ ne-eqb _ _ (w .3 .left)))
           (λ w. match-on live op _ _ _ _ _ false _ e (inv .keyBound) (c .before .pair-agrees .ensures) (w .left) refl)
-          (c .if2 .came));
+          (c .if1 .came));
     }
 
 cast-t33 : tie.Need-cast-t33 Inv-fields μ-fields Inv-rows μ-rows
 cast-t33 c = search needs
 
-returns-2 : tie.Need-returns-2 Inv-fields μ-fields Inv-rows μ-rows
-returns-2 c =
+returns : tie.Need-returns Inv-fields μ-fields Inv-rows μ-rows
+returns c =
     let row = c .before .before in
     let inv = row .rows .inv in
     let start = row-start row in
@@ -257,8 +242,8 @@ returns-2 c =
     ⊎-elim
     (λ w. absurd (omega arith))
     (λ w.
-    let passed : tie.Then2 Inv-fields μ-fields Inv-rows μ-rows =
-    record { before = record { before = record { before = row; rows-test = w .0 }; pair-agrees = w .1 }; if2 = w .2 } in
+    let passed : tie.Then1 Inv-fields μ-fields Inv-rows μ-rows =
+    record { before = record { before = record { before = row; rows-test = w .0 }; pair-agrees = w .1 }; if1 = w .2 } in
     let left : tie.Left-fields Inv-fields μ-fields Inv-rows μ-rows = record { before = record { before = passed; fields = w .3 }; fields-test = w .4 } in
     let live = w .3 .inv .live in
     sym
@@ -268,10 +253,10 @@ returns-2 c =
     (agreed left ∙ eq-eqb _ _ (w .5 .taken)))))
     (c .before .rows-test .came)
 
-returns-3 : tie.Need-returns-3 Inv-fields μ-fields Inv-rows μ-rows
-returns-3 c =
+returns-2 : tie.Need-returns-2 Inv-fields μ-fields Inv-rows μ-rows
+returns-2 c =
     let row = c .before .before in
-    sym (row .rows .inv .older (row-start row .args .op) (row-pair row .pair-of .ensures) ∙ over _ _ _ _ (decode-len _) (c .if5 .left))
+    sym (row .rows .inv .older (row-start row .args .op) (row-pair row .pair-of .ensures) ∙ over _ _ _ _ (decode-len _) (c .if4 .left))
 
 pub search-spec : {M : Type 1} → statement M
 search-spec =
@@ -284,9 +269,7 @@ search-spec =
     pair-of-requires
     shared-slice-read-live
     cast-live
-    returns
     cast-count
-    has-bounds-requires
     rows-holds
     cast-at
     pair-agrees-requires
@@ -307,5 +290,5 @@ search-spec =
     rows-less
     rows-again
     cast-t33
-    returns-2
-    returns-3)
+    returns
+    returns-2)

@@ -1,24 +1,33 @@
 -- `seek` meets its contract: the verdict is the table's, the search by the stored co-key is the search by the pair, and
 -- the copied words are the found entry's fields, from which the names come.
-use Prim.Native.Nat.{ℕ, _≤_, _<_}
-use mathlib.Core.Path.{_≡_, refl, sym, ap, _∙_, subst}
-use mathlib.Core.Bool.{not}
-use mathlib.Core.List.{_∷_}
+use Prim.Native.Nat.{ℕ, _-_, _≤_, _<_}
+use mathlib.Core.Path.{_≡_, refl, sym, ap, ap₂, _∙_, subst}
+use mathlib.Core.Bool.{Bool, true, not}
+use mathlib.Core.List.{List, [], _∷_}
 use mathlib.Core.Option.{none}
+use native.Mathlib.Nat.{sub-zero}
 use native.Mathlib.Omega.{arith}
+use denote.Enum.Declared.{tagOf}
+use types.Run.{OneOf}
 use lib.IntN.{ℤ}
-use lib.ListN.{length}
-use lib.Seq.{length-take-le}
+use lib.ListN.{length, take, drop}
+use lib.Seq.{take-length, length-take-le}
 use mir.Facts.{toZ-ofZ}
 use mir.Syntax.{w32}
+use Rattle.rules.specs.Lists.{all}
 use Rattle.rules.specs.Names.{keyInRange, coKey, stored, coStored}
 use Rattle.rules.specs.Matching.{Pair, pair, storedPair, matches}
 use Rattle.rules.specs.Calls.{Table, firstThatApplies, seekTable}
 use Rattle.rules.specs.Words.{decode, sound}
 use Rattle.rules.proofs.KeyLaws.{stored-le, co-in-range, co-co}
 use Rattle.rules.proofs.Back.{sound-facts}
-use Rattle.refusals.specs.Verdicts.{verdict}
-use Rattle.refusals.proofs.Tables.{verdict-refused, verdict-passed}
+use Rattle.words.specs.Kind.{plain}
+use Rattle.refusals.specs.Verdicts.{verdict, admittedBy, boundsIn}
+use Rattle.refusals.specs.declared.Admission.{Admission}
+use Rattle.refusals.specs.declared.Verdict.{Verdict}
+use Rattle.refusals.specs.declared.Verdict.the-variants.{Passed}
+use Rattle.refusals.proofs.Admission.{the-type}
+use Rattle.refusals.proofs.Tables.{verdict-refused, verdict-passed, admitted-refused, admitted-passed, bounds-admitted}
 use Rattle.search.specs.Place.{meant, place}
 use Rattle.search.specs.declared.Found.{Found}
 use Rattle.space.specs.Answers.{soughtIn}
@@ -30,19 +39,25 @@ use borrow.Author.Needs.{needs}
 use Rattle.space.proofs.seek.Statement.{statement}
 use Rattle.space.proofs.seek.Tie as tie
 
--- the places of the walk, each by its way to the one before it: the verdict, the co-key, the search, the fields copied out,
+-- the places of the walk, each by its way to the one before it: the verdict, the bounds, the co-key, the search, the fields copied out,
 -- and their names held
 abbrev verdict-start : tie.After-of-seek → tie.Start
-verdict-start c = c .before .before .before .before .before
+verdict-start c = c .before .before .before .before .before .before
 
 abbrev refused-verdict : tie.After-known-told → tie.After-of-seek
 refused-verdict c = c .before .before .before
 
-abbrev passed-verdict : tie.After-enum-told → tie.After-of-seek
-passed-verdict c = c .before .before
+abbrev passed-verdict : tie.At-match-keys2 → tie.After-of-seek
+passed-verdict c = c .before
 
-abbrev co-key-passed : tie.After-stored-co-key → tie.After-enum-told
-co-key-passed c = c .before
+abbrev bounds-passed : tie.After-has-bounds → tie.At-match-keys2
+bounds-passed c = c .before
+
+abbrev co-key-bounds : tie.After-stored-co-key → tie.After-has-bounds
+co-key-bounds c = c .before
+
+abbrev co-key-passed : tie.After-stored-co-key → tie.At-match-keys2
+co-key-passed c = bounds-passed (co-key-bounds c)
 
 abbrev lent-co-key : tie.After-search-arg → tie.After-stored-co-key
 lent-co-key c = c .before
@@ -50,7 +65,7 @@ lent-co-key c = c .before
 abbrev search-co-key : tie.After-search → tie.After-stored-co-key
 search-co-key c = lent-co-key (c .before)
 
-abbrev nothing-search : tie.After-enum-told2 → tie.After-search
+abbrev nothing-search : tie.After-enum-told → tie.After-search
 nothing-search c = c .before .before
 
 abbrev found-search : tie.After-known-told2 → tie.After-search
@@ -68,23 +83,33 @@ prefix-copied c = c .before .before .before
 abbrev held-copied : tie.After-hold-names-arg2 → tie.After-copy-out
 held-copied c = prefix-copied (c .before)
 
-abbrev passed-start : tie.After-enum-told → tie.Start
+abbrev passed-start : tie.At-match-keys2 → tie.Start
 passed-start c = verdict-start (passed-verdict c)
 
-abbrev search-passed : tie.After-search → tie.After-enum-told
+abbrev search-passed : tie.After-search → tie.At-match-keys2
 search-passed c = co-key-passed (search-co-key c)
 
-abbrev found-passed : tie.After-known-told2 → tie.After-enum-told
+abbrev found-passed : tie.After-known-told2 → tie.At-match-keys2
 found-passed c = search-passed (found-search c)
 
--- the call's table by its key, its pair, the place of its oldest match, and what it comes to
-tableOf : tie.Start → ℤ → Table
-tableOf s k =
+-- the fields as they are lent on, which are all fields
+abbrev lent : tie.Start → List ℕ
+lent s = let fields = s .args .fields .now in take (length fields - 0) (drop 0 fields)
+
+lent-is : (s : tie.Start) → lent s ≡ s .args .fields .now
+lent-is s = let fields = s .args .fields .now in ap (λ (n : ℕ). take n fields) (sub-zero (length fields)) ∙ take-length fields
+
+-- the call's table by its key and template, how it is admitted, its pair, the place of its oldest match, and what it comes to
+tableOf : tie.Start → ℤ → List ℕ → Table
+tableOf s k t =
     let a = s .args in
-    (not (sound (a .space .now)), 1) ∷ seekTable (decode (a .space .now)) (a .party) (pair (a .partition) k) (a .fields .now) (length (a .result .now))
+    (not (sound (a .space .now)), 1) ∷ seekTable (decode (a .space .now)) (a .party) (pair (a .partition) k) t (length (a .result .now))
 
 whole : tie.Start → Table
-whole s = tableOf s (s .args .key)
+whole s = tableOf s (s .args .key) (s .args .fields .now)
+
+admitted : tie.Start → ℤ → List ℕ → Admission
+admitted s k t = admittedBy (verdict (tableOf s k t)) (all plain t)
 
 abbrev pairOf : tie.Start → Pair ℤ
 pairOf s = pair (s .args .partition) (s .args .key)
@@ -95,17 +120,32 @@ placeOf s = let a = s .args in place (matches (meant (a .op)) (storedPair (pairO
 abbrev soughtOf : tie.Start → Sought
 soughtOf s = let a = s .args in soughtIn (a .space .now) (meant (a .op)) (a .party) (pairOf s) (a .fields .now) (length (a .result .now))
 
-verdict-is : (c : tie.After-of-seek) → c .of-seek .result ≡ verdict (whole (verdict-start c))
-unfolding whole tableOf
-verdict-is c = c .of-seek .ensures ∙ ap (λ (k : ℤ). verdict (tableOf (verdict-start c) k)) (toZ-ofZ {w = w32} (verdict-start c .fits .key))
+admission-is : (c : tie.After-of-seek) → let s = verdict-start c in c .of-seek .result ≡ admitted s (s .args .key) (s .args .fields .now)
+unfolding admitted tableOf
+admission-is c = let s = verdict-start c in c .of-seek .ensures ∙ ap₂ (admitted s) (toZ-ofZ {w = w32} (s .fits .key)) (lent-is s)
 
-module _ (c : tie.After-enum-told) where
+module _ (c : tie.At-match-keys2) where
+  passes : Passed ≡ verdict (whole (passed-start c))
+  unfolding admitted whole
+  passes =
+      admitted-passed _ (all plain (passed-start c .args .fields .now))
+      (subst (λ (a : Admission). OneOf (0 ∷ 1 ∷ []) (tagOf the-type a)) (admission-is (passed-verdict c)) (c .match .keys2))
+
   no-refusal : firstThatApplies (whole (passed-start c)) ≡ none
-  no-refusal = verdict-passed (whole (passed-start c)) (sym (c .enum-told .given .1) ∙ verdict-is (passed-verdict c))
+  no-refusal = verdict-passed (whole (passed-start c)) passes
 
   passed : let a = passed-start c .args in SeekPassed (a .space .now) (a .party) (pairOf (passed-start c)) (a .fields .now) (length (a .result .now))
   unfolding whole tableOf
   passed = seek-passed _ _ _ _ _ no-refusal
+
+-- where the template is searched as one without bounds, all its fields are plain
+unbounded : (c : tie.After-has-bounds) → not (c .has-bounds .result) ≡ true → all plain (passed-start (bounds-passed c) .args .fields .now) ≡ true
+unfolding admitted whole
+unbounded c q =
+    let s = passed-start (bounds-passed c) in
+    let told = c .has-bounds .ensures ∙ ap boundsIn (admission-is (passed-verdict (bounds-passed c))) in
+    let p = all plain (s .args .fields .now) in
+    sym (bounds-admitted p) ∙ ap (λ (v : Verdict). not (boundsIn (admittedBy v p))) (passes (bounds-passed c)) ∙ sym (ap not told) ∙ q
 
 module _ (c : tie.After-stored-co-key) where
   cokey-is : c .stored-co-key .result ≡ stored (coKey (passed-start (co-key-passed c) .args .key))
@@ -120,8 +160,8 @@ place-is : (c : tie.After-search) → c .search .result ≡ placeOf (passed-star
 place-is c =
     let a = passed-start (search-passed c) .args in
     c .search .ensures
-    ∙ ap (λ (k : ℕ). place (matches (meant (a .op)) (pair (a .partition) k) (a .fields .now)) (decode (a .space .now) .entries))
-    (ap coStored (cokey-is (search-co-key c)) ∙ co-co (a .key) (passed (search-passed c) .range))
+    ∙ ap₂ (λ (k : ℕ) (t : List ℕ). place (matches (meant (a .op)) (pair (a .partition) k) t) (decode (a .space .now) .entries))
+    (ap coStored (cokey-is (search-co-key c)) ∙ co-co (a .key) (passed (search-passed c) .range)) (lent-is (passed-start (search-passed c)))
 
 module _ (c : tie.After-known-told2) where
   found-is : At (c .before .row .given .0 .0) ≡ soughtOf (passed-start (found-passed c))
@@ -131,35 +171,54 @@ module _ (c : tie.After-known-told2) where
   low-row : c .before .row .given .0 .0 < 128
   low-row = found-low _ _ _ _ _ (passed-start (found-passed c) .args .result .now) _ found-is
 
+sub-template : tie.Need-sub-template
+sub-template c = search needs
+
+part-template-start : tie.Need-part-template-start
+part-template-start c = search needs
+
+part-template-end : tie.Need-part-template-end
+part-template-end c = search needs
+
 of-seek-requires : tie.Need-of-seek-requires
 of-seek-requires c κs = search needs
 
-enum-known-verdict : tie.Need-enum-known-verdict
-enum-known-verdict c = search needs
+enum-known-admission : tie.Need-enum-known-admission
+enum-known-admission c = search needs
 
 same-length : tie.Need-same-length
 same-length c = search needs
 
 returns : tie.Need-returns
-unfolding whole tableOf
+unfolding admitted whole tableOf
 returns c =
     let verdict = refused-verdict c in
-    (sought-refused _ _ _ _ _ _ _ (verdict-refused (whole (verdict-start verdict)) _ (sym (c .before .verdict .given .1) ∙ verdict-is verdict)), refl)
+    let refused = admitted-refused _ (all plain (verdict-start verdict .args .fields .now)) _ (sym (c .before .admission .given .1) ∙ admission-is verdict) in
+    (sought-refused _ _ _ _ _ _ _ (verdict-refused (whole (verdict-start verdict)) _ refused), refl)
 
-enum-told : tie.Need-enum-told
-enum-told c = search needs
+has-bounds-requires : tie.Need-has-bounds-requires
+has-bounds-requires c κs = search needs
 
 stored-co-key-requires : tie.Need-stored-co-key-requires
-stored-co-key-requires c κs = ap keyInRange (toZ-ofZ {w = w32} (passed-start c .fits .key)) ∙ passed c .range
+stored-co-key-requires c κs =
+    ap keyInRange (toZ-ofZ {w = w32} (passed-start (bounds-passed c) .fits .key)) ∙ passed (bounds-passed c) .range
 
 search-requires : tie.Need-search-requires
-search-requires c κs = let p = passed (co-key-passed (lent-co-key c)) in (p .isSound, cokey-small (lent-co-key c), p .few)
+search-requires c κs =
+    let bounds = co-key-bounds (lent-co-key c) in
+    let s = passed-start (bounds-passed bounds) in
+    let p = passed (bounds-passed bounds) in (
+      p .isSound,
+      cokey-small (lent-co-key c),
+      subst (λ (t : List ℕ). length t ≤ 8) (sym (lent-is s)) (p .few),
+      λ q. ap (all plain) (lent-is s) ∙ unbounded bounds q,
+    )
 
 enum-known-row : tie.Need-enum-known-row
 enum-known-row c = search needs
 
-enum-told-2 : tie.Need-enum-told-2
-enum-told-2 c = search needs
+enum-told : tie.Need-enum-told
+enum-told c = search needs
 
 same-length-2 : tie.Need-same-length-2
 same-length-2 c = search needs
@@ -168,7 +227,7 @@ returns-2 : tie.Need-returns-2
 unfolding whole tableOf
 returns-2 c =
     let search = nothing-search c in
-    (sought-placed _ _ _ _ _ _ (no-refusal (search-passed search)) _ (sym (c .enum-told2 .given .1) ∙ place-is search), refl)
+    (sought-placed _ _ _ _ _ _ (no-refusal (search-passed search)) _ (sym (c .enum-told .given .1) ∙ place-is search), refl)
 
 copy-out-requires : tie.Need-copy-out-requires
 copy-out-requires c κs =
@@ -185,7 +244,9 @@ slice-aggregate-hold-names : tie.Need-slice-aggregate-hold-names
 slice-aggregate-hold-names c = sym (length-take-le _ _ (slice-reshare-prefix-hold-names (c .before)))
 
 hold-names-requires : tie.Need-hold-names-requires
-hold-names-requires c κs = let p = passed (found-passed (copied-found (held-copied c))) in (p .isSound, p .party)
+hold-names-requires c κs =
+    let p = passed (found-passed (copied-found (held-copied c))) in
+    (p .isSound, p .party, subst (λ (n : ℕ). n ≤ 8) (slice-aggregate-hold-names c) (p .few))
 
 same-length-3 : tie.Need-same-length-3
 same-length-3 c = search needs
@@ -207,15 +268,18 @@ pub seek-spec : {M : Type 1} → statement M
 seek-spec =
     tie.close
     (tie.spec
+    sub-template
+    part-template-start
+    part-template-end
     of-seek-requires
-    enum-known-verdict
+    enum-known-admission
     same-length
     returns
-    enum-told
+    has-bounds-requires
     stored-co-key-requires
     search-requires
     enum-known-row
-    enum-told-2
+    enum-told
     same-length-2
     returns-2
     copy-out-requires

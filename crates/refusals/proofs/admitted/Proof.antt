@@ -1,0 +1,13 @@
+-- `admitted` meets its contract: by whether all fields are plain.
+use mathlib.Core.Path.{refl}
+use Rattle.refusals.proofs.admitted.Statement.{statement}
+use Rattle.refusals.proofs.admitted.Tie as tie
+
+returns : tie.Need-returns
+returns c = rw (c .if1 .taken) refl
+
+returns-2 : tie.Need-returns-2
+returns-2 c = rw (c .if1 .left) refl
+
+pub admitted-spec : {M : Type 1} → statement M
+admitted-spec = tie.close (tie.spec returns returns-2)
