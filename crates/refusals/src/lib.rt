@@ -21,7 +21,7 @@ pub enum Verdict {
     Refused(u32),
 }
 
-// What becomes of a read or take: where it passes, the search is to know whether the template has bounds.
+// What becomes of a read or take. Where it passes, the search has to know whether the template has bounds.
 pub enum Admission {
     Plain,
     Bounded,
@@ -220,7 +220,7 @@ fn put_held(
     read_held & (take_held & names_held)
 }
 
-// R7
+// R7. The names in fields first, so that the pair takes no registers meanwhile.
 fn seek_held(space: &[u64], party: u32, partition: u32, key: i32, template: &[u64]) -> bool
     requires { ⌜ (length (now space) ≡ 1809) × (party < 8) × (keyInRange key ≡ true) × (length (now template) ≤ 8) ⌝ }
     ensures { λ r. ⌜ r ≡ all (holds (decode (now (space .entry))) party) (seekNames (pair partition key) (now (template .entry))) ⌝ }
