@@ -9,7 +9,7 @@ use native.Mathlib.Nat.{le-antisymm, ne-of-lt}
 use borrow.Author.Needs.{needs}
 use borrow.Author.Tests.{not-true, not-false, eq-eqb, ne-eqb}
 use lib.Dec.{eqb}
-use lib.ListN.{length, getD, drop}
+use lib.ListN.{length, drop}
 use Rattle.rules.specs.Names.{coStored}
 use Rattle.rules.specs.Matching.{Entry, fieldsAgree, matches}
 use Rattle.rules.specs.Matching as matching
