@@ -121,7 +121,7 @@ fn seek(
     ensures { λ r. ⌜ r ≡ soughtIn (now (space .entry)) (place.meant op) party (pair partition key) (now (fields .entry)) (length (now (result .entry))) ⌝ }
     ensures { λ r. ⌜ (now (space .exit), now (result .exit)) ≡ delivered r party (length (now (fields .entry))) (now (space .entry)) (now (result .entry)) ⌝ }
 {
-    // a part of its own: passed on whole, a slice is read byte by byte on a Cortex-M0+
+    // a part of its own: passed on whole, a slice is read byte by byte on the board's smaller core
     let template = &fields[0..];
     let admission = refusals::of_seek(space, party, partition, key, template, result.len());
     if let Admission::Refused(number) = admission {
