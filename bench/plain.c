@@ -511,3 +511,78 @@ uint32_t plain_take(uint64_t *restrict s, uint64_t len, uint32_t party, uint32_t
 {
     return seek(s, len, party, partition, key, f, n, result, room, TAKE);
 }
+
+/* 5. A roster from a file. A line that gives a right has one digit, p or k and at most two digits more, with a minus at most. So
+   any other line is refused, and only then is it looked at whether it could be read. */
+
+enum { LONGEST = 16384, NAMES = 16, KEYS = 8 * 64, KEY_0 = KEYS + 31 };
+static const char names[] = "party kind name\n";
+
+/* The words are built as one row of bits: 64 of partitions for each party, then 64 of keys for each. */
+enum { PART_BITS = 8 * sizeof(part), PARTS = 16 * 64 / PART_BITS };
+
+/* The first four bytes of a line with a party up to 7: the bit of its partition 0 or its key 0, else NEVER. */
+INLINE uint32_t party_and_kind(const uint8_t *p)
+{
+#if defined __ARM_FEATURE_UNALIGNED || defined __SSE2__
+    uint32_t four, party, digit_p = '0' | ' ' << 8 | 'p' << 16 | ' ' << 24, digit_k = '0' | ' ' << 8 | 'k' << 16 | ' ' << 24;
+    memcpy(&four, p, 4);
+    party = four - digit_p;
+    if (party <= 7) return 64 * party;
+    party = four - digit_k;
+    return party <= 7 ? KEY_0 + 64 * party : NEVER;
+#else
+    uint32_t party = p[0] - '0';
+    if (party > 7 || p[1] != ' ' || p[3] != ' ') return NEVER;
+    return p[2] == 'p' ? 64 * party : p[2] == 'k' ? KEY_0 + 64 * party : NEVER;
+#endif
+}
+
+/* The end of a number that can be read, else 0. */
+static const uint8_t *number_end(const uint8_t *p)
+{
+    if (*p == '0') return p + 1;
+    if ((uint32_t)*p - '0' > 9) return 0;
+    while ((uint32_t)*p - '0' <= 9) p++;
+    return p;
+}
+
+/* A line that gives no right: it can't be read, or a number is out of range. Every byte before the line feed is looked at before the
+   next one, so none behind it is. */
+NOINLINE uint32_t faulty(const uint8_t *p)
+{
+    p = number_end(p);
+    if (!p || p[0] != ' ' || (p[1] != 'p' && p[1] != 'k') || p[2] != ' ') return 111;
+    p += 3;
+    if (*p == '-' && *++p == '0') return 111;
+    p = number_end(p);
+    return p && *p == '\n' ? 112 : 111;
+}
+
+uint32_t plain_read_roster(const uint8_t *restrict file, uint64_t len, uint64_t *restrict roster, uint64_t roster_len)
+{
+    if (roster_len != 16) return 109; /* before the file is looked at */
+    if (len > LONGEST || len < NAMES || memcmp(file, names, NAMES)) return 110;
+    part parts[PARTS] = {0};
+    const uint8_t *p = file + NAMES, *end = file + low(len);
+    while (end[-1] != '\n') end--; /* the lines before come first; so none is read past its line feed */
+    while (end - p >= 4) {
+        const uint8_t *line = p;
+        uint32_t at = party_and_kind(p), minus = 0, number, digit;
+        if (at == NEVER) return faulty(line);
+        p += 4;
+        number = *p++ - '0';
+        if (at >= KEYS && number == (uint32_t)'-' - '0') minus = 1, number = *p++ - '0';
+        if (number > 9) return faulty(line);
+        digit = *p++ - '0';
+        if (digit <= 9 && number) number = 10 * number + digit, digit = *p++ - '0';
+        if (digit != (uint32_t)'\n' - '0') return faulty(line);
+        if (number > (at < KEYS ? 63 : 31)) return 112;
+        if (minus && number == 0) return 111;
+        at = minus ? at - number : at + number;
+        parts[at / PART_BITS] |= (part)1 << at % PART_BITS;
+    }
+    if (p != file + low(len)) return 111; /* what is too short, or has no line feed */
+    memcpy(roster, parts, sizeof parts);
+    return 0;
+}

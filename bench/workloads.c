@@ -18,7 +18,9 @@
 enum { WORDS = 1809, ROWS = 128, ROW = 14, PAINT = 0xA5 };
 #define APART __attribute__((noinline, noclone))
 
-static uint64_t space[WORDS], kept[WORDS], roster[16], result[8];
+static uint64_t space[WORDS], kept[WORDS], roster[16], result[8], given[16];
+static uint8_t file[SPACE_ROSTER_FILE_BYTES];
+static uint64_t file_len;
 static const uint64_t one[1] = {5}, any1[1] = {ANY}, any8[8] = {ANY, ANY, ANY, ANY, ANY, ANY, ANY, ANY};
 static const uint64_t last[8] = {1, 2, 3, 4, 5, 6, 7, 227}, entry[8] = {1, 2, 3, 4, 5, 6, 7, 8};
 static const uint64_t least[8] = {ANY, ANY, ANY, ANY, ANY, ANY, ANY, AT_LEAST + 227};
@@ -42,12 +44,13 @@ static uint32_t take_oldest(void) { return space_take(space, WORDS, 0, 0, 0, any
 static uint32_t take_last(void) { return space_take(space, WORDS, 0, 0, 0, last, 8, result, 8); }
 static uint32_t read_at_least(void) { return space_read(space, WORDS, 0, 0, 0, least, 8, result, 8); }
 static uint32_t read_at_most(void) { return space_read(space, WORDS, 0, 0, 0, most, 8, result, 8); }
+static uint32_t read_roster(void) { return space_read_roster(file, file_len, given, 16); }
 
-/* live entries before the round, how their last messages go, and the sum of the answers */
+/* live entries before the round, how their last messages go, and the sum of the answers; for the reading of a roster the card */
 static const struct workload {
     char letter;
     uint32_t live;
-    enum { RISING, FALLING } order;
+    enum { RISING, FALLING, TWELVE, ALL, LONGEST, UNREADABLE } order;
     uint32_t sum, (*round)(void);
 } workloads[] = {
     {'.', 0, RISING, 0, nothing},
@@ -65,13 +68,47 @@ static const struct workload {
     {'l', 128, RISING, 8, take_last},
     {'m', 128, RISING, 8, read_at_least},
     {'n', 128, FALLING, 8, read_at_most},
+    {'o', 0, TWELVE, 0, read_roster},
+    {'p', 0, ALL, 0, read_roster},
+    {'q', 0, LONGEST, 0, read_roster},
+    {'r', 0, UNREADABLE, 111, read_roster},
 };
 enum { WORKLOADS = sizeof workloads / sizeof *workloads };
+
+static void add(const char *text)
+{
+    memcpy(file + file_len, text, strlen(text));
+    file_len += strlen(text);
+}
+
+static void add_right(int party, char kind, int name)
+{
+    char text[16];
+    snprintf(text, sizeof text, "%d %c %d\n", party, kind, name);
+    add(text);
+}
+
+/* The card of a workload: 12 rights; or all 1,016; or as many lines as 16,384 bytes hold; or 12 with a first line that can't be read. */
+static void prepare_card(const struct workload *w)
+{
+    file_len = 0;
+    add(w->order == UNREADABLE ? "party kind name\n0 p 01\n" : "party kind name\n");
+    if (w->order == ALL)
+        for (int party = 0; party < 8; party++) {
+            for (int partition = 0; partition <= 63; partition++) add_right(party, 'p', partition);
+            for (int key = -31; key <= 31; key++) add_right(party, 'k', key);
+        }
+    else if (w->order == LONGEST)
+        for (int party = 0; file_len < SPACE_ROSTER_FILE_BYTES; party = (party + 1) % 8) add_right(party, party % 2 ? 'k' : 'p', party);
+    else
+        add("0 p 1\n0 k 7\n0 k -7\n1 p 1\n1 k -7\n1 p 10\n1 k 3\n2 p 1\n2 k -7\n2 p 11\n2 k 31\n3 p 63\n");
+}
 
 /* Words written as they stand, so that nothing but the round calls the library. Party p writes 16 rows of 8 messages, under the
    defaults; the last message goes from 100 up or from 227 down. Everybody holds partitions 0 to 7 and keys -31 to -24 and 0. */
 static void prepare(const struct workload *w)
 {
+    prepare_card(w);
     memset(kept, 0, sizeof kept);
     kept[0] = w->live;
     for (uint32_t i = 0; i < 8; i++) {

@@ -40,7 +40,7 @@ FORMS = {
     "metadata": r"!(?:[\w.]+|\d+) = !\{.*\}",
     "declare": r"declare void @llvm\.memmove\.p0\.p0\.i64\(ptr writeonly captures\(none\), ptr readonly captures\(none\), i64, i1 immarg\) #\d+",
     "define": rf"define (?P<own>internal )?(?:noundef (?:zeroext )?)?(?P<gives>void|{INT}) (?P<name>{NAME})\((?P<takes>{PARAMETERS})\) #0 {{",
-    "slot": rf"  (?P<to>%\w+) = alloca (?P<what>{TYPE}|\[\d+ x i8\]), align [1248]",
+    "slot": rf"  (?P<to>%\w+) = alloca (?:{TYPE}|\[(?P<bytes>\d+) x i8\]), align [1248]",
     "part": rf"  (?P<to>%\w+) = getelementptr (?:inbounds )?(?:nuw )?i8, ptr (?P<of>%\w+), i64 (?P<by>{VALUE})",
     "load": rf"  (?P<to>%\w+) = load (?P<what>{TYPE}), ptr (?P<of>%\w+), align [1248]{NOTES}",
     "store": rf"  store (?P<what>{TYPE}) (?P<value>{VALUE}), ptr (?P<of>%\w+), align [1248]",
@@ -107,14 +107,21 @@ class Places:
 
 
 SIZE = {"i1": 1, "i8": 1, "i16": 2, "i32": 4, "i64": 8, "ptr": POINTER}
-LENT = 64  # bytes of a parameter that are followed into the callee; a slice has 16
+LENT = 128  # bytes of a slot that are followed: a slice has 16, the words of a roster have 128; a larger slot is refused
 
 
 def refuse_mixed_slots(lines):
     """No byte of a slot holds a number at one time and part of a pointer at another; then the bytes that a pointer leaves free on
-    the board are never looked at. Through a pointer that was itself loaded (a lent slice) only numbers are read and written, so
-    whatever a stored pointer leads to counts as numbers."""
+    the board are never looked at. Through a pointer that was itself loaded (a lent slice), or moved by a count that isn't known
+    here, only numbers are read and written. So whatever a stored pointer leads to counts as numbers, and so does a slot in which
+    places are computed."""
     places, at, function, formals = Places(), {}, None, {}
+
+    def numbers(pointer):
+        base, offset = at[pointer]
+        for byte in range(LENT):
+            places.seen((function, base, offset + byte), False)
+
     for _, form, found in lines:
         if form == "define":
             formals[found["name"]] = parameters(found["takes"])[1]
@@ -124,10 +131,15 @@ def refuse_mixed_slots(lines):
             types, names = parameters(found["takes"])
             at = {name: (name, 0) for name, kind in zip(names, types) if kind == "ptr"}
         elif form == "slot":
+            if found["bytes"] and int(found["bytes"]) > LENT:
+                raise Refused(f"line {number} of the module has a slot of more bytes than are followed")
             at[found["to"]] = (found["to"], 0)
-        elif form == "part" and found["of"] in at and found["by"].isdigit():
-            base, offset = at[found["of"]]
-            at[found["to"]] = (base, offset + int(found["by"]))
+        elif form == "part" and found["of"] in at:
+            if found["by"].isdigit():
+                base, offset = at[found["of"]]
+                at[found["to"]] = (base, offset + int(found["by"]))
+            else:
+                numbers(found["of"])
         elif form in ("load", "store"):
             if found["of"] in at:
                 base, offset = at[found["of"]]
@@ -136,9 +148,7 @@ def refuse_mixed_slots(lines):
             elif found["what"] == "ptr":
                 raise Refused(f"line {number} of the module keeps a pointer outside a slot")
             if form == "store" and found["what"] == "ptr" and found["value"] in at:
-                base, offset = at[found["value"]]
-                for byte in range(LENT):
-                    places.seen((function, base, offset + byte), False)
+                numbers(found["value"])
         elif form == "copy":
             if found["into"] not in at or found["of"] not in at:
                 raise Refused(f"line {number} of the module copies what is in no slot")
@@ -203,13 +213,14 @@ def declared(header):
 
 
 FOR_C = {
+    "&[u8]": ["const uint8_t *", "uint64_t"],
     "&[u64]": ["const uint64_t *", "uint64_t"],
     "&mut [u64]": ["uint64_t *", "uint64_t"],
     "u32": ["uint32_t"],
     "i32": ["int32_t"],
     "u64": ["uint64_t"],
 }
-LOWERED = {"uint64_t *": "ptr", "const uint64_t *": "ptr", "uint64_t": "i64", "uint32_t": "i32", "int32_t": "i32"}
+LOWERED = {"uint64_t *": "ptr", "const uint64_t *": "ptr", "const uint8_t *": "ptr", "uint64_t": "i64", "uint32_t": "i32", "int32_t": "i32"}
 
 
 def exported(source):

@@ -133,8 +133,9 @@ static uint64_t some_word(uint64_t *state)
 int main(void)
 {
     uint64_t state = 88172645463325252u;
-    printf("words %d, roster %d, fields %d, parties %d, live entries %d, partitions to %d, keys to %d, the wildcard %llu\n", SPACE_WORDS,
-           SPACE_ROSTER_WORDS, SPACE_MOST_FIELDS, SPACE_PARTIES, SPACE_SHARE, SPACE_LAST_PARTITION, SPACE_LAST_KEY, (number)SPACE_WILDCARD);
+    printf("words %d, roster %d, of a file %d, fields %d, parties %d, live entries %d, partitions to %d, keys to %d, the wildcard %llu\n",
+           SPACE_WORDS, SPACE_ROSTER_WORDS, SPACE_ROSTER_FILE_BYTES, SPACE_MOST_FIELDS, SPACE_PARTIES, SPACE_SHARE, SPACE_LAST_PARTITION,
+           SPACE_LAST_KEY, (number)SPACE_WILDCARD);
     printf("kinds %d %d %d %d %d %d, bad %u\n", SPACE_KIND_MESSAGE, SPACE_KIND_PARTITION, SPACE_KIND_KEY, SPACE_KIND_WILDCARD,
            SPACE_KIND_AT_LEAST, SPACE_KIND_AT_MOST, (unsigned)SPACE_KIND_BAD);
     open_for_all();

@@ -1,5 +1,6 @@
-/* For an emulated Cortex-M0 with 16 KB of RAM, which has no instruction beyond its own: the example's calls, told by the status
-   alone, since the space leaves no room for printf. The status is the number of the first answer that is wrong, or 0. */
+/* For an emulated Cortex-M0 with 16 KB of RAM, which has no instruction beyond its own: the example's calls, with a roster that is
+   read from a file, told by the status alone, since the space leaves no room for printf. The status is the number of the first answer
+   that is wrong, or 0. */
 #include "space.h"
 #include "words.h"
 
@@ -7,8 +8,14 @@ static uint64_t space[WORDS], result[MOST_FIELDS];
 
 int main(void)
 {
-    static const uint64_t roster[ROSTER] = {1ull << 5, 1ull << 5, [8] = 1ull << 35, 1ull << 27};
+    static const uint64_t right[ROSTER] = {1ull << 5, 1ull << 5, [8] = 1ull << 35, 1ull << 27};
+    static const uint8_t file[] = "party kind name\n0 p 5\n0 k 4\n1 k -4\n1 p 5\n1 k -4\n1 p 64\n";
+    uint64_t roster[ROSTER];
     static const uint64_t entry[2] = {7, 120}, first[2] = {7, WILDCARD}, any[2] = {WILDCARD, WILDCARD};
+    if (space_read_roster(file, sizeof file - 1, roster, ROSTER) != 112) return 9;
+    if (space_read_roster(file, sizeof file - 8, roster, ROSTER) != 0) return 10;
+    for (int i = 0; i < ROSTER; i++)
+        if (roster[i] != right[i]) return 11;
     if (space_open(space, WORDS, roster, ROSTER) != 0) return 1;
     if (space_put(space, WORDS, 0, 5, 4, 5, 4, entry, 2) != 0) return 2;
     if (space_read(space, WORDS, 1, 5, -4, first, 2, result, MOST_FIELDS) != 2 || result[1] != 120) return 3;

@@ -1,10 +1,9 @@
 -- What holds whenever the console is about to print: the next line begins within the input, and fewer lines are left each time.
 use Prim.Native.Nat.{ℕ, suc, _+_, _-_, _≤_, _<_}
-use mathlib.Core.Path.{_≡_, ap, _∙_}
+use mathlib.Core.Path.{_≡_}
 use mathlib.Core.List.{List}
 use native.Mathlib.Omega.{arith}
-use lib.ListN.{length, take, drop, length-append, length-drop, length-take}
-use Rattle.text.specs.Written.{placed, Written}
+use lib.ListN.{length, take, length-take}
 use Rattle.session.specs.Steps.{Ready, printedBy, Onward}
 use Rattle.session.specs.declared.Turn.{Turn}
 use Rattle.session.specs.declared.Turn.the-variants.{Stop, Go}
@@ -27,14 +26,6 @@ pub record Running (input : List ℕ) (n : ℕ) (space roster out : List ℕ) (t
 abbrev pub left : Turn → ℕ → ℕ
 left (Stop k) n = 0
 left (Go from s k) n = suc (n - from .at)
-
--- what is printed fits where it was written
-pub printed-fits : (text out after : List ℕ) (k : ℕ) → Written out 0 text after k → length out ≡ 256 → length after ≡ 256 → k ≤ 256
-unfolding placed
-printed-fits text out after k w l m =
-    let a : length after ≡ length text + length (drop (0 + length text) out) = ap length (w .bytes) ∙ length-append text _ in
-    let d = length-drop (0 + length text) out in
-    omega (arith, w .ends)
 
 module _ (input : List ℕ) (n : ℕ) (whole : length input ≡ 65537) (few : n ≤ 65536) where
   taken : length (take n input) ≡ n

@@ -1,16 +1,14 @@
--- Items, blanks and equal texts, byte by byte.
+-- Items and blanks, byte by byte.
 use mathlib.Core.Path.{_≡_, refl, sym, ap, _∙_}
-use mathlib.Core.Bool.{true, false, and-false}
 use mathlib.Core.List.{List, [], _∷_, _++_, append-nil, append-assoc}
 use Prim.Native.Nat.{ℕ, zero, suc, _+_, _-_, _≤_, _<_}
 use native.Mathlib.Numerals.{add-one}
 use native.Mathlib.Omega.{arith}
 use borrow.Author.Tests.{eq-eqb, ne-eqb}
-use lib.Dec.{eqb}
 use lib.ListN.{length, getD, take, drop, length-drop, drop-of-length-le}
 use lib.Seq.{drop-cons, take-suc, getD-drop}
-use Rattle.text.specs.Fields.{before}
-use Rattle.lines.specs.Lines.{pastBlank, item, blanks, same}
+use Rattle.numbers.specs.Parts.{before}
+use Rattle.lines.specs.Lines.{pastBlank, item, blanks}
 
 -- ---- blanks
 
@@ -23,24 +21,6 @@ module _ (line : List ℕ) (i : ℕ) where
 
   pub no-more-blanks : length line ≤ i → blanks (drop i line) ≡ 0
   no-more-blanks l = rw (drop-of-length-le line l)
-
--- ---- equal texts
-
-pub other-length : (a b : List ℕ) → (length a ≡ length b → ⊥) → same a b ≡ false
-other-length [] [] n = absurd (n refl)
-other-length [] (y ∷ b) n = refl
-other-length (x ∷ a) [] n = refl
-other-length (x ∷ a) (y ∷ b) n = rw (other-length a b (λ e. n (ap suc e))) (and-false (eqb x y))
-
-module _ (a b : List ℕ) (i : ℕ) (l : i < length a) (k : i < length b) where
-  pub byte-agrees : getD a i 0 ≡ getD b i 0 → same (drop i a) (drop i b) ≡ same (drop (i + 1) a) (drop (i + 1) b)
-  byte-agrees e = rw (add-one, drop-cons a i 0, drop-cons b i 0) (rw (eq-eqb (getD a i 0) (getD b i 0) e))
-
-  pub byte-differs : (getD a i 0 ≡ getD b i 0 → ⊥) → same (drop i a) (drop i b) ≡ false
-  byte-differs n = rw (drop-cons a i 0, drop-cons b i 0) (rw (ne-eqb (getD a i 0) (getD b i 0) n))
-
-pub none-differs : (a b : List ℕ) (i : ℕ) → length a ≤ i → length b ≤ i → same (drop i a) (drop i b) ≡ true
-none-differs a b i l k = rw (drop-of-length-le a l, drop-of-length-le b k)
 
 -- ---- items
 

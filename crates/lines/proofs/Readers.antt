@@ -25,7 +25,8 @@ use Rattle.text.specs.declared.SignedNumber.the-variants.{Value, Unreadable}
 use Rattle.lines.specs.declared.Gift.{Gift}
 use Rattle.lines.specs.declared.Gift.the-variants as gift
 use Rattle.lines.specs.declared.Line.the-variants as line
-use Rattle.lines.specs.Lines.{Line, give, item, same, dash, optional, giftOf, readGive, readPair, putOf, readPut, seekOf, readSeek}
+use Rattle.numbers.specs.Parts.{same}
+use Rattle.lines.specs.Lines.{Line, give, item, dash, optional, giftOf, readGive, readPair, putOf, readPut, seekOf, readSeek}
 use Rattle.lines.specs.Read.{noTakePair, nameOf, meantFields, GiftUpTo, CountUpTo, FieldsAre, LineIs}
 
 pub no-key : (o : Option ℤ) → Unreadable ≡ signedOf o → o ≡ none

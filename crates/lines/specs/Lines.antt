@@ -1,5 +1,5 @@
 -- A line of the console's input: seven items, read as a gift to the roster or as a call.
-use mathlib.Core.Bool.{Bool, true, false, not, _&&_, cond}
+use mathlib.Core.Bool.{Bool, not, _&&_, cond}
 use mathlib.Core.List.{List, [], _∷_}
 use mathlib.Core.Option.{Option, none, some}
 use Prim.Native.Nat.{ℕ, zero, suc}
@@ -10,7 +10,8 @@ use Rattle.rules.specs.Matching.{Pair, pair, Op, reading, taking}
 use Rattle.rules.specs.Calls.{Call, put, seek}
 use Rattle.rules.specs.Words.{zeros}
 use Rattle.text.specs.Numbers.{unsigned, signed}
-use Rattle.text.specs.Fields.{readFields, before}
+use Rattle.numbers.specs.Parts.{before, same}
+use Rattle.text.specs.Fields.{readFields}
 
 -- T15: the bytes past the first blank
 abbrev pub pastBlank : List ℕ → List ℕ
@@ -26,13 +27,6 @@ item (suc i) line = item i (pastBlank line)
 abbrev pub blanks : List ℕ → ℕ
 blanks [] = 0
 blanks (b ∷ bs) = cond (eqb b 32) (suc (blanks bs)) (blanks bs)
-
--- the same bytes
-abbrev pub same : List ℕ → List ℕ → Bool
-same [] [] = true
-same [] (b ∷ bs) = false
-same (a ∷ l) [] = false
-same (a ∷ l) (b ∷ bs) = eqb a b && same l bs
 
 -- the words of the format: "give"
 abbrev pub giveWord : List ℕ

@@ -11,6 +11,7 @@ use Rattle.rules.specs.Calls.{put, seek}
 use Rattle.rules.specs.Calls as calls
 use Rattle.rules.specs.Words.{zeros}
 use Rattle.search.specs.Place as place
+use Rattle.numbers.specs.Parts.{same}
 use Rattle.text.specs.declared.Fields.{Fields}
 use Rattle.text.specs.declared.Fields.the-variants as fields
 use Rattle.lines.specs.Lines as lines
@@ -27,7 +28,7 @@ use Rattle.lines.specs.declared.Line.the-variants as line
 
 -- T12, T14: nothing stands under the take pair
 abbrev pub noTakePair : List ℕ → Bool
-noTakePair line = lines.same (lines.item 4 line) lines.dash && lines.same (lines.item 5 line) lines.dash
+noTakePair line = same (lines.item 4 line) lines.dash && same (lines.item 5 line) lines.dash
 
 abbrev pub nameOf : Gift → Option ℕ
 nameOf gift.Missing = none

@@ -15,7 +15,8 @@ ghost use Rattle.text.specs.Numbers.{unsigned, signed};
 ghost use Rattle.text.specs.Fields.{readFields};
 ghost use Rattle.text.specs.Answers.{numberOf, signedOf};
 ghost use Rattle.search.specs.Place as place;
-ghost use Rattle.lines.specs.Lines.{blanks, item, same, dash, optional, pairOf, readGive, readPut, readSeek, readLine};
+ghost use Rattle.numbers.specs.Parts.{same};
+ghost use Rattle.lines.specs.Lines.{blanks, item, dash, optional, pairOf, readGive, readPut, readSeek, readLine};
 ghost use Rattle.lines.specs.Parts.{PartIs};
 ghost use Rattle.lines.specs.Read.{noTakePair, meantGift, meantPair, FieldsAre, LineIs};
 
@@ -96,29 +97,13 @@ fn item(line: &[u8], i: usize) -> Part
     Part { start: at, end: at }
 }
 
-pub fn same(a: &[u8], b: &[u8]) -> bool
-    ensures { λ r. ⌜ r ≡ same (now (a .entry)) (now (b .entry)) ⌝ }
-{
-    if a.len() != b.len() {
-        return false;
-    }
-    let mut i = 0;
-    while i < a.len() {
-        if a[i] != b[i] {
-            return false;
-        }
-        i += 1;
-    }
-    true
-}
-
 fn item_is(line: &[u8], i: usize, word: &[u8]) -> bool
     ensures { λ r. ⌜ r ≡ same (item i (now (line .entry))) (now (word .entry)) ⌝ }
 {
     let part = item(line, i);
     let start = part.start;
     let end = part.end;
-    same(&line[start..end], word)
+    numbers::same(&line[start..end], word)
 }
 
 fn number_in(line: &[u8], i: usize) -> Number

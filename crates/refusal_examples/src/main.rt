@@ -1,5 +1,5 @@
-// Every refusal of every call, and for every two neighbours of the table a call that both would turn away.
-// A line says the call, what is wrong with it, its answer, and whether a word of space or result has changed.
+// Every refusal of every call and of a roster file, and for every two neighbours of the table one that both would turn away.
+// A line says the call, what is wrong with it, its answer, and whether a word of space, result or roster has changed.
 use space::Answer;
 
 // Field words with value 0.
@@ -36,6 +36,8 @@ fn main() {
     put_at_the_limit(words);
     seek_examples(words, false);
     seek_examples(words, true);
+    file_examples();
+    file_refused_twice();
 }
 
 // Party 0 holds partition 5 and key 4, and party 1 partition 5 and key -4.
@@ -335,6 +337,85 @@ fn seek_1808(words: [u64; 1809], taking: bool, party: u32) {
     show(answer, same(&before, &after) & same(&[99; 8], &result));
 }
 
+fn file_examples() {
+    say(b"file, 15 words lent");
+    file_into(b"party kind name\n1 p 5\n", &[99; 15], &mut [99; 15]);
+    say(b"file, 17 words lent");
+    file_into(b"party kind name\n1 p 5\n", &[99; 17], &mut [99; 17]);
+    say(b"file, empty");
+    file(b"");
+    say(b"file, names line without a line feed");
+    file(b"party kind name");
+    say(b"file, another names line");
+    file(b"party kind value\n1 p 5\n");
+    say(b"file, an empty line");
+    file(b"party kind name\n\n");
+    say(b"file, a leading zero");
+    file(b"party kind name\n1 p 05\n");
+    say(b"file, -0");
+    file(b"party kind name\n1 k -0\n");
+    say(b"file, a minus before the party");
+    file(b"party kind name\n-1 p 5\n");
+    say(b"file, kind s");
+    file(b"party kind name\n1 s 5\n");
+    say(b"file, no line feed at the end");
+    file(b"party kind name\n1 p 5");
+    say(b"file, party 8");
+    file(b"party kind name\n8 p 5\n");
+    say(b"file, partition 64");
+    file(b"party kind name\n1 p 64\n");
+    say(b"file, partition -5");
+    file(b"party kind name\n1 p -5\n");
+    say(b"file, key -32");
+    file(b"party kind name\n1 k -32\n");
+    say(b"file, partition 18446744073709551621");
+    file(b"party kind name\n1 p 18446744073709551621\n");
+    say(b"file, nothing wrong");
+    file(b"party kind name\n1 p 5\n1 k -4\n1 p 5\n");
+    long_files();
+}
+
+// The names line and empty lines, which can't be read: as long as a file may be, and longer.
+fn long_files() {
+    let mut longest = [10u8; 16384];
+    numbers::place(b"party kind name\n", &mut longest, 0);
+    say(b"file, 16384 bytes, empty lines");
+    file(&longest);
+    let mut longer = [10u8; 16385];
+    numbers::place(b"party kind name\n", &mut longer, 0);
+    say(b"file, 16385 bytes, empty lines");
+    file(&longer);
+}
+
+fn file_refused_twice() {
+    say(b"file, 15 words lent, empty");
+    file_into(b"", &[99; 15], &mut [99; 15]);
+    say(b"file, another names line, a leading zero");
+    file(b"party kind value\n1 p 05\n");
+    say(b"file, another names line, party 8");
+    file(b"party kind value\n8 p 5\n");
+    say(b"file, party 8, kind s");
+    file(b"party kind name\n8 s 5\n");
+    say(b"file, party 8, no line feed at the end");
+    file(b"party kind name\n8 p 5");
+    say(b"file, party 8, then a line with a leading zero");
+    file(b"party kind name\n8 p 5\n1 p 05\n");
+    say(b"file, a leading zero, then a line with party 8");
+    file(b"party kind name\n1 p 05\n8 p 5\n");
+}
+
+fn file(bytes: &[u8]) {
+    file_into(bytes, &[99; 16], &mut [99; 16]);
+}
+
+// As a program in C makes the call, with words that are the same before it.
+fn file_into(bytes: &[u8], before: &[u64], words: &mut [u64]) {
+    let code = space_c::space_read_roster(bytes, words);
+    say(b": ");
+    io::print_decimal(1, code as u64);
+    show_change(same(before, words));
+}
+
 fn sought(
     words: &mut [u64],
     taking: bool,
@@ -367,6 +448,10 @@ fn say_seek(taking: bool, text: &[u8]) {
 fn show(answer: Answer, unchanged: bool) {
     say(b": ");
     show_answer(answer);
+    show_change(unchanged);
+}
+
+fn show_change(unchanged: bool) {
     if unchanged {
         say(b", unchanged\n");
     } else {

@@ -1,9 +1,11 @@
 -- Names: partitions, keys and co-keys, and the words whose bits hold them.
 use mathlib.Core.Bool.{Bool, _&&_}
+use mathlib.Core.List.{List}
 use Prim.Native.Nat.{ℕ, _-_, _/_, _%_, _^_, _≤_}
 use lib.Bits.{bitOr}
 use lib.Dec.{eqb}
 use lib.IntN.{ℤ, pos, negsuc, natAbs, negℤ, _+ℤ_}
+use lib.ListN.{getD, set}
 use lib.Signed.{leZ}
 
 -- N3: a key is a number from -31 to 31
@@ -47,6 +49,10 @@ bit w c = eqb (w / 2 ^ c % 2) 1
 -- L2: a word with bit c set
 abbrev pub withBit : ℕ → ℕ → ℕ
 withBit w c = bitOr w (2 ^ c)
+
+-- L2, L3: the words with bit c of word i set
+abbrev pub setBit : ℕ → ℕ → List ℕ → List ℕ
+setBit i c ws = set ws i (withBit (getD ws i 0) c)
 
 -- L2, L3: the name is among those of a partition word and a key word
 unfoldable pub heldIn : ℕ → ℕ → Name → Bool

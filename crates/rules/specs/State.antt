@@ -3,9 +3,9 @@ use mathlib.Core.Bool.{Bool}
 use mathlib.Core.List.{List, [], _∷_}
 use Prim.Native.Nat.{ℕ}
 use lib.Dec.{eqb}
-use lib.ListN.{length, getD, set}
+use lib.ListN.{length, getD}
 use Rattle.rules.specs.Lists.{keep}
-use Rattle.rules.specs.Names.{Name, partition, key, heldIn, withBit}
+use Rattle.rules.specs.Names.{Name, partition, key, heldIn, setBit}
 use Rattle.rules.specs.Matching.{Entry}
 
 -- L1 to L4: one partition word and one key word for each party
@@ -21,9 +21,9 @@ holds s who n = heldIn (getD (s .partitions) who 0) (getD (s .keys) who 0) n
 -- C3: the party holds the name from now on
 unfoldable pub give : ℕ → Name → State → State
 give who (partition c) s =
-    record { partitions = set (s .partitions) who (withBit (getD (s .partitions) who 0) c); keys = s .keys; entries = s .entries }
+    record { partitions = setBit who c (s .partitions); keys = s .keys; entries = s .entries }
 give who (key k) s =
-    record { partitions = s .partitions; keys = set (s .keys) who (withBit (getD (s .keys) who 0) k); entries = s .entries }
+    record { partitions = s .partitions; keys = setBit who k (s .keys); entries = s .entries }
 
 abbrev pub giveAll : ℕ → List Name → State → State
 giveAll who [] s = s

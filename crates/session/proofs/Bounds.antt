@@ -13,11 +13,12 @@ use Rattle.rules.specs.Words.{Exit, exit, call, refusals}
 use Rattle.rules.specs.Runs.{foundIn}
 use Rattle.rules.proofs.Decided.{callBy, call-by}
 use Rattle.space.specs.Answers.{Small}
-use Rattle.text.specs.Numbers.{decimal}
+use Rattle.numbers.specs.Numbers.{decimal}
 use Rattle.text.specs.Fields.{renderFields}
-use Rattle.text.proofs.Room.{decimal-short, fields-short}
+use Rattle.numbers.proofs.Keys.{decimal-short}
+use Rattle.text.proofs.Room.{fields-short}
 use Rattle.session.specs.Transcript.{answerText, replyText, unreadable}
-use Rattle.text.specs.Written.{Written}
+use Rattle.numbers.specs.Written.{Written}
 use Rattle.session.specs.Steps.{countOf, Made, Replied}
 
 number-short : (n : ℕ) → n ≤ 1000000 → length (decimal n) ≤ 7

@@ -11,9 +11,8 @@ use lib.ListN.{length, getD}
 use Rattle.rules.specs.Claims.{Iff}
 use Rattle.rules.specs.Words.{zeros}
 use Rattle.rules.proofs.ListLaws.{bool}
-use Rattle.text.specs.Fields.{parts}
-use Rattle.lines.specs.Lines.{same}
-use Rattle.session.specs.Transcript.{giving, unreadable, tooLong, inputNames, outputNames, transcript, fromStart, output}
+use Rattle.numbers.specs.Parts.{parts, same}
+use Rattle.session.specs.Transcript.{giving, tooLong, inputNames, outputNames, transcript, fromStart, output, unreadable}
 use Rattle.session.specs.Claims.{TooLong}
 
 -- an input that is not too long prints `line ..` first

@@ -14,12 +14,12 @@ use Rattle.rules.specs.Calls.{Call}
 use Rattle.rules.specs.Words.{zeros, call, opening}
 use Rattle.rules.proofs.ListLaws.{bool}
 use Rattle.rules.proofs.Rows.{length-zeros}
-use Rattle.text.specs.Fields.{before, beyond, parts}
-use Rattle.text.proofs.Placing.{written-none}
-use Rattle.text.proofs.Parts.{take-before, last-part, further-parts}
-use Rattle.lines.specs.Lines.{give, ask, same, readLine}
-use Rattle.session.specs.Transcript.{Phase, giving, running, given, replyText, replying, lineStep}
-use Rattle.session.specs.Transcript.{unreadable, inputNames, outputNames, atEnd, transcript, fromStart}
+use Rattle.numbers.specs.Parts.{before, beyond, parts, same}
+use Rattle.numbers.proofs.Placing.{written-none}
+use Rattle.numbers.proofs.Parts.{take-before, last-part, further-parts}
+use Rattle.lines.specs.Lines.{give, ask, readLine}
+use Rattle.session.specs.Transcript.{Phase, giving, running, given, replyText, replying, lineStep, unreadable}
+use Rattle.session.specs.Transcript.{inputNames, outputNames, atEnd, transcript, fromStart}
 use Rattle.session.specs.Steps.{phaseOf, Ready, Goes, Replied}
 use Rattle.session.specs.declared.Session.{Session}
 

@@ -1,4 +1,3 @@
-pub mod Placed
 pub mod FoundFields
 pub mod Bounds
 pub mod Follow

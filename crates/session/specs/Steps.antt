@@ -8,8 +8,8 @@ use lib.ListN.{length, drop}
 use Rattle.rules.specs.Calls.{Answer, done, found, nothing, refused}
 use Rattle.rules.specs.Words.{zeros, Exit}
 use Rattle.rules.specs.Runs.{foundIn}
-use Rattle.text.specs.Fields.{parts}
-use Rattle.text.specs.Written.{Written}
+use Rattle.numbers.specs.Parts.{parts}
+use Rattle.numbers.specs.Written.{Written}
 use Rattle.session.specs.Transcript.{Phase, giving, running, given, replyText, lineStep, transcript}
 use Rattle.session.specs.declared.Session.{Session}
 use Rattle.session.specs.declared.Step as steps

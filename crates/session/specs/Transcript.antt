@@ -4,14 +4,15 @@ use mathlib.Core.List.{List, [], _∷_, _++_}
 use mathlib.Core.Option.{Option, none, some}
 use Prim.Native.Nat.{ℕ, suc, _+_}
 use lib.Dec.{ltb}
-use lib.ListN.{length, getD, set}
-use Rattle.rules.specs.Names.{withBit}
+use lib.ListN.{length}
+use Rattle.rules.specs.Names.{setBit}
 use Rattle.rules.specs.Calls.{Call, Answer, done, found, nothing, refused}
 use Rattle.rules.specs.Words.{zeros, Exit, call, opening}
 use Rattle.rules.specs.Runs.{foundIn}
-use Rattle.text.specs.Numbers.{decimal}
-use Rattle.text.specs.Fields.{renderFields, parts}
-use Rattle.lines.specs.Lines.{Line, give, ask, same, readLine}
+use Rattle.numbers.specs.Numbers.{decimal}
+use Rattle.numbers.specs.Parts.{parts, same}
+use Rattle.text.specs.Fields.{renderFields}
+use Rattle.lines.specs.Lines.{Line, give, ask, readLine}
 
 -- T20: the console first builds the roster, and from the first call on runs the space
 pub data Phase : Type 0 where
@@ -22,7 +23,7 @@ pub data Phase : Type 0 where
 
 abbrev pub withName : ℕ → Option ℕ → List ℕ → List ℕ
 withName i none roster = roster
-withName i (some c) roster = set roster i (withBit (getD roster i 0) c)
+withName i (some c) roster = setBit i c roster
 
 -- T12: the roster with the gift
 unfoldable pub given : ℕ → Option ℕ → Option ℕ → List ℕ → List ℕ

@@ -12,7 +12,7 @@ ghost use Prim.Native.Nat.{_<_, _≤_};
 ghost use lib.ListN.{length, drop};
 ghost use Rattle.rules.specs.Words.{zeros, call, opening};
 ghost use Rattle.space.specs.Answers.{meant};
-ghost use Rattle.text.specs.Fields.{parts};
+ghost use Rattle.numbers.specs.Parts.{parts};
 ghost use Rattle.session.specs.Transcript.{withName, fromStart, transcript};
 ghost use Rattle.lines.specs.Read.{nameOf, meantCall, fieldCount, GiftUpTo};
 ghost use Rattle.session.specs.Steps.{phaseOf, Ready, Gave, Made, Replied, StepIs, Turned, moreAfter, printedBy, Onward, Kept};
@@ -47,14 +47,14 @@ pub fn begin(input: &[u8], out: &mut [u8]) -> Turn
     ensures { λ r. ⌜ Turned (fromStart (parts 10 (now (input .entry)))) (now (out .entry)) (now (out .exit)) (printedBy r) (moreAfter r (now (input .entry)) (zeros 16) (zeros 1809)) ⌝ }
     ensures { λ r. ⌜ Onward r 0 1 0 (now (input .entry)) (zeros 16) (zeros 1809) ⌝ }
 {
-    let end = text::part_end(input, 0, 10);
+    let end = numbers::part_end(input, 0, 10);
     if end == input.len() {
         return Turn::Stop(replies::render_unreadable(1, out));
     }
-    if !lines::same(&input[..end], b"call party rpart rkey tpart tkey fields") {
+    if !numbers::same(&input[..end], b"call party rpart rkey tpart tkey fields") {
         return Turn::Stop(replies::render_unreadable(1, out));
     }
-    let k = replies::place(b"line answer fields\n", out, 0);
+    let k = numbers::place(b"line answer fields\n", out, 0);
     Turn::Go(
         LineStart {
             at: end + 1,
@@ -84,7 +84,7 @@ pub fn take_turn(
 {
     let at = from.at;
     let number = from.number;
-    let end = text::part_end(input, at, 10);
+    let end = numbers::part_end(input, at, 10);
     if end == input.len() {
         if end == at {
             return Turn::Stop(0);
@@ -145,10 +145,7 @@ fn add_name(roster: &mut [u64], at: usize, gift: Gift)
 {
     match gift {
         Gift::Missing => {}
-        Gift::Name(c) => {
-            let w = words::with_bit(roster[at], c);
-            roster[at] = w;
-        }
+        Gift::Name(c) => words::set_bit(roster, at, c),
     }
 }
 

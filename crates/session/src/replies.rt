@@ -6,22 +6,9 @@ ghost use Prim.Native.Nat.{_+_, _≤_};
 ghost use lib.ListN.{length};
 ghost use Rattle.rules.specs.Words.{exit};
 ghost use Rattle.space.specs.Answers.{meant};
-ghost use Rattle.text.specs.Written.{Written};
+ghost use Rattle.numbers.specs.Written.{Written};
 ghost use Rattle.session.specs.Transcript.{answerText, replyText, unreadable};
 ghost use Rattle.session.specs.Steps.{countOf};
-
-// The bytes, written there.
-pub fn place(bytes: &[u8], out: &mut [u8], at: usize) -> usize
-    requires { ⌜ at + length (now bytes) ≤ length (now out) ⌝ }
-    ensures { λ r. ⌜ Written (now (out .entry)) at (now (bytes .entry)) (now (out .exit)) r ⌝ }
-{
-    let mut i = 0;
-    while i < bytes.len() {
-        out[at + i] = bytes[i];
-        i += 1;
-    }
-    at + i
-}
 
 // G8: how many fields were found.
 fn found(answer: Answer) -> usize
@@ -41,12 +28,12 @@ fn render_answer(answer: Answer, out: &mut [u8], at: usize) -> usize
     ensures { λ r. ⌜ Written (now (out .entry)) at (answerText (meant answer)) (now (out .exit)) r ⌝ }
 {
     match answer {
-        Answer::Done => place(b"done", out, at),
-        Answer::Found(_) => place(b"found", out, at),
-        Answer::None => place(b"none", out, at),
+        Answer::Done => numbers::place(b"done", out, at),
+        Answer::Found(_) => numbers::place(b"found", out, at),
+        Answer::None => numbers::place(b"none", out, at),
         Answer::Refused(number) => {
-            let end = place(b"no", out, at);
-            text::render_decimal(number as u64, out, end)
+            let end = numbers::place(b"no", out, at);
+            numbers::render_decimal(number as u64, out, end)
         }
     }
 }
@@ -56,13 +43,13 @@ pub fn render_reply(number: u64, answer: Answer, result: &[u64], out: &mut [u8])
     requires { ⌜ (countOf (meant answer) ≤ length (now result)) × (length (replyText number (exit (meant answer) [] (now result))) ≤ length (now out)) ⌝ }
     ensures { λ r. ⌜ Written (now (out .entry)) 0 (replyText number (exit (meant answer) [] (now (result .entry)))) (now (out .exit)) r ⌝ }
 {
-    let a = text::render_decimal(number, out, 0);
-    let b = place(b" ", out, a);
+    let a = numbers::render_decimal(number, out, 0);
+    let b = numbers::place(b" ", out, a);
     let c = render_answer(answer, out, b);
-    let d = place(b" ", out, c);
+    let d = numbers::place(b" ", out, c);
     let n = found(answer);
     let e = text::render_fields(&result[..n], out, d);
-    place(b"\n", out, e)
+    numbers::place(b"\n", out, e)
 }
 
 // T22
@@ -70,7 +57,7 @@ pub fn render_unreadable(number: u64, out: &mut [u8]) -> usize
     requires { ⌜ length (unreadable number) ≤ length (now out) ⌝ }
     ensures { λ r. ⌜ Written (now (out .entry)) 0 (unreadable number) (now (out .exit)) r ⌝ }
 {
-    let a = place(b"line ", out, 0);
-    let b = text::render_decimal(number, out, a);
-    place(b" unreadable\n", out, b)
+    let a = numbers::place(b"line ", out, 0);
+    let b = numbers::render_decimal(number, out, a);
+    numbers::place(b" unreadable\n", out, b)
 }

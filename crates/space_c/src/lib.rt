@@ -1,4 +1,5 @@
-// The four calls for programs in C, exported as include/space.h declares them.
+// The four calls, and the reading of a roster, for programs in C, exported as include/space.h declares them.
+use roster_file::Reading;
 use space::Answer;
 ghost use mathlib.Core.Path.{_≡_};
 ghost use mathlib.Core.List.{[]};
@@ -6,7 +7,7 @@ ghost use Rattle.rules.specs.Matching.{pair, reading, taking};
 ghost use Rattle.rules.specs.Calls.{put, seek};
 ghost use Rattle.rules.specs.Words.{call, opening};
 ghost use Rattle.space.specs.Answers.{meant, Small};
-ghost use Rattle.space_c.specs.Codes.{codeOf, Left};
+ghost use Rattle.space_c.specs.Codes.{codeOf, Left, readInto, Read};
 
 // C1
 #[no_mangle]
@@ -60,6 +61,21 @@ pub extern "C" fn space_take(
     ensures { λ r. ⌜ Left r (now (space .exit)) (now (result .exit)) (call (now (space .entry)) (seek taking party (pair partition key) (now (fields .entry)) (now (result .entry)))) ⌝ }
 {
     code(space::take(space, party, partition, key, fields, result))
+}
+
+// D1 to D5: a roster from a file.
+#[no_mangle]
+pub extern "C" fn space_read_roster(file: &[u8], roster: &mut [u64]) -> u32
+    ensures { λ r. ⌜ Read r (now (roster .entry)) (now (roster .exit)) (readInto (now (file .entry)) (now (roster .entry))) ⌝ }
+{
+    if roster.len() != 16 {
+        return 109;
+    }
+    let read = roster_file::read_roster(file, roster);
+    match read {
+        Reading::Given => 0,
+        Reading::Refused(n) => 100 + n,
+    }
 }
 
 // C5: the answer as a number.

@@ -1,11 +1,6 @@
-pub mod Digits
-pub mod Signed
-pub mod Placing
-pub mod Decimal
+pub mod Numbers
 pub mod Rendering
-pub mod Parts
 pub mod FieldReading
 pub mod ListReading
-pub mod NumbersBack
 pub mod FieldsBack
 pub mod Room

@@ -12,12 +12,13 @@ use lib.Dec.{leb}
 use lib.ListN.{length, getD, take, drop, set, length-append, length-drop}
 use lib.Seq.{drop-cons, set-at, take-at, take-all, append-snoc}
 use Rattle.rules.proofs.ListLaws.{bool}
-use Rattle.text.specs.Fields.{readField, before, beyond, parts, both, readEach, upToSixteen, isDash, readFields, onto, leading, wordsAfter}
+use Rattle.numbers.specs.Parts.{before, beyond, parts}
+use Rattle.text.specs.Fields.{readField, both, readEach, upToSixteen, isDash, readFields, onto, leading, wordsAfter}
 use Rattle.text.specs.Answers.{wordOf, countOf}
 use Rattle.text.specs.declared.Word.the-variants as word
 use Rattle.text.specs.declared.Fields.{Fields}
 use Rattle.text.specs.declared.Fields.the-variants as fields
-use Rattle.text.proofs.Parts.{end-low, end-high, part-is, last-part, further-parts}
+use Rattle.numbers.proofs.Parts.{end-low, end-high, part-is, last-part, further-parts}
 
 pub word-none : (o : Option ℕ) → word.Unreadable ≡ wordOf o → o ≡ none
 unfolding wordOf

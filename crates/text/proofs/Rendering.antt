@@ -1,25 +1,17 @@
 -- What is rendered of a key and of a field, by the cases that the code tells apart.
-use Prim.Native.Nat.{ℕ, suc, _+_, _-_, _≤_, _<_}
+use Prim.Native.Nat.{ℕ, _+_, _≤_, _<_}
 use mathlib.Core.Path.{_≡_, refl, sym, ap, _∙_}
 use mathlib.Core.List.{List, [], _∷_, _++_}
 use native.Mathlib.Numerals.{add-one}
 use native.Mathlib.Omega.{arith}
-use borrow.Author.Tests.{lt-ltb, le-ltb}
 use lib.ListN.{length, getD, drop, set, length-set, drop-of-length-le}
 use lib.Seq.{drop-cons}
 use Rattle.rules.specs.Fields.{field}
 use Rattle.words.specs.Kind.{meant}
 use Rattle.words.specs.declared.Field.{Field}
-use Rattle.text.specs.Numbers.{decimal, decimalKey}
-use Rattle.text.specs.Fields.{keyOf, rendered, renderField, renderMore, renderFields}
-use Rattle.text.specs.Written.{Written}
-use Rattle.text.proofs.Placing.{first-room, rest-room, written-rest, left-room, right-room, written-both, written-none}
-
-pub key-up : (s : ℕ) → 31 ≤ s → decimalKey (keyOf s) ≡ decimal (s - 31)
-key-up s h = rw (le-ltb s 31 h)
-
-pub key-down : (s : ℕ) → s < 31 → decimalKey (keyOf s) ≡ 45 ∷ decimal (31 - s)
-key-down s h = let e : suc (31 - suc s) ≡ 31 - s = omega arith in rw (lt-ltb s 31 h) (ap (λ (n : ℕ). 45 ∷ decimal n) e)
+use Rattle.text.specs.Fields.{rendered, renderField, renderMore, renderFields}
+use Rattle.numbers.specs.Written.{Written}
+use Rattle.numbers.proofs.Placing.{first-room, rest-room, written-rest, left-room, right-room, written-both, written-none}
 
 -- by what the code took the word for
 pub render-by : (w : ℕ) (f g : Field) → meant f ≡ field w → f ≡ g → renderField w ≡ rendered (meant g)

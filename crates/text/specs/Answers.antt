@@ -4,6 +4,10 @@ use mathlib.Core.List.{List}
 use Prim.Native.Nat.{ℕ}
 use lib.IntN.{ℤ}
 use lib.ListN.{length}
+use Rattle.numbers.specs.declared.Natural.{Natural}
+use Rattle.numbers.specs.declared.Natural.the-variants as natural
+use Rattle.numbers.specs.declared.Whole.{Whole}
+use Rattle.numbers.specs.declared.Whole.the-variants as whole
 use Rattle.text.specs.declared.Number as number
 use Rattle.text.specs.declared.Number.{Number}
 use Rattle.text.specs.declared.SignedNumber as signed-number
@@ -28,6 +32,17 @@ wordOf (some w) = word.the-variants.Field w
 unfoldable pub countOf : Option (List ℕ) → Fields
 countOf none = fields.the-variants.Unreadable
 countOf (some ws) = fields.the-variants.Count (length ws)
+
+-- T3, T4: what the console makes of a number of any length
+abbrev pub numberIn : Natural → Number
+numberIn (natural.Value v) = number.the-variants.Value v
+numberIn natural.Large = number.the-variants.Unreadable
+numberIn natural.Unreadable = number.the-variants.Unreadable
+
+abbrev pub signedIn : Whole → SignedNumber
+signedIn (whole.Value k) = signed-number.the-variants.Value k
+signedIn whole.Large = signed-number.the-variants.Unreadable
+signedIn whole.Unreadable = signed-number.the-variants.Unreadable
 
 -- what a number or a signed number was read as
 abbrev pub valueIn : Number → Option ℕ

@@ -4,11 +4,13 @@ use mathlib.Core.List.{List, [], _∷_, _++_}
 use mathlib.Core.Option.{Option, none, some}
 use Prim.Native.Nat.{ℕ, _+_, _*_}
 use lib.Dec.{eqb, leb}
-use lib.IntN.{ℤ, pos, _-ℤ_}
+use lib.IntN.{ℤ}
 use lib.ListN.{length, take, drop}
 use Rattle.rules.specs.Names.{keyInRange, stored, partition, key}
 use Rattle.rules.specs.Fields.{Field, message, name, wildcard, atLeast, atMost, bad, field}
-use Rattle.text.specs.Numbers.{unsigned, signed, decimal, decimalKey}
+use Rattle.numbers.specs.Numbers.{decimal, decimalKey, keyOf}
+use Rattle.numbers.specs.Parts.{parts}
+use Rattle.text.specs.Numbers.{unsigned, signed}
 
 -- ---- one field
 
@@ -39,10 +41,6 @@ readField (b ∷ bs) =
     (cond (eqb b 108) (ofKind 5 (unsigned bs))
     none)))))
 
--- N5: the key that is stored as s
-abbrev pub keyOf : ℕ → ℤ
-keyOf s = pos s -ℤ pos 31
-
 -- T6: a bad field is never found, and so `?` (63) never rendered
 abbrev pub rendered : Field → List ℕ
 rendered (message v) = 109 ∷ decimal v
@@ -56,22 +54,6 @@ rendered bad = 63 ∷ []
 -- T6
 unfoldable pub renderField : ℕ → List ℕ
 renderField w = rendered (field w)
-
--- ---- parts of a text
-
--- T7: the bytes before the first separator
-abbrev pub before : ℕ → List ℕ → List ℕ
-before sep [] = []
-before sep (b ∷ bs) = cond (eqb b sep) [] (b ∷ before sep bs)
-
--- T7: the parts after the first separator
-abbrev pub beyond : ℕ → List ℕ → List (List ℕ)
-beyond sep [] = []
-beyond sep (b ∷ bs) = cond (eqb b sep) (before sep bs ∷ beyond sep bs) (beyond sep bs)
-
--- T7: the parts of a text that its separators stand between
-abbrev pub parts : ℕ → List ℕ → List (List ℕ)
-parts sep bs = before sep bs ∷ beyond sep bs
 
 -- ---- lists of fields
 

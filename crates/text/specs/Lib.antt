@@ -1,5 +1,4 @@
 pub mod Numbers
 pub mod Fields
 pub mod Answers
-pub mod Written
 pub mod Claims

@@ -1,72 +1,25 @@
--- Numbers in decimal: read from bytes, and rendered to bytes.
-use mathlib.Core.Bool.{Bool, true, false, not, _&&_, cond}
-use mathlib.Core.List.{List, [], _∷_, _++_}
+-- The console's numbers: those that 32 bits hold.
+use mathlib.Core.Bool.{cond}
+use mathlib.Core.List.{List}
 use mathlib.Core.Option.{Option, none, some}
-use Prim.Native.Nat.{ℕ, zero, suc, _+_, _-_, _*_, _/_, _%_}
-use lib.Dec.{eqb, leb, ltb}
-use lib.IntN.{ℤ, pos, negsuc}
-use Rattle.rules.specs.Lists.{all}
-
--- T1: a digit is a byte from `0` (48) to `9` (57)
-abbrev pub isDigit : ℕ → Bool
-isDigit b = leb 48 b && leb b 57
-
--- T1: the value of digits that follow digits of value v
-abbrev pub valueFrom : ℕ → List ℕ → ℕ
-valueFrom v [] = v
-valueFrom v (b ∷ bs) = valueFrom (10 * v + (b - 48)) bs
-
--- T1: the decimal value of digits
-abbrev pub valueOf : List ℕ → ℕ
-valueOf bs = valueFrom 0 bs
-
--- T2: at least one byte, and no leading zero: only a single byte may be `0`
-abbrev pub startsWell : List ℕ → Bool
-startsWell [] = false
-startsWell (b ∷ []) = true
-startsWell (b ∷ c ∷ bs) = not (eqb b 48)
-
--- T2: a natural number is digits without a leading zero
-abbrev pub natural : List ℕ → Option ℕ
-natural bs = cond (startsWell bs && all isDigit bs) (some (valueOf bs)) none
+use Prim.Native.Nat.{ℕ}
+use lib.Dec.{leb}
+use lib.IntN.{ℤ}
+use Rattle.numbers.specs.Numbers.{natural, whole}
+use Rattle.numbers.specs.Answers.{fits}
 
 abbrev pub upTo : ℕ → Option ℕ → Option ℕ
 upTo most none = none
 upTo most (some v) = cond (leb v most) (some v) none
 
--- T2: a natural number of at most `most`
-unfoldable pub naturalUpTo : ℕ → List ℕ → Option ℕ
-naturalUpTo most bs = upTo most (natural bs)
+-- T3: an unsigned number is a natural number that fits 32 bits
+unfoldable pub unsigned : List ℕ → Option ℕ
+unsigned bs = upTo 4294967295 (natural bs)
 
--- T3: an unsigned number fits 32 bits
-abbrev pub unsigned : List ℕ → Option ℕ
-unsigned bs = naturalUpTo 4294967295 bs
+abbrev pub fitting : Option ℤ → Option ℤ
+fitting none = none
+fitting (some k) = cond (fits k) (some k) none
 
-abbrev pub positive : Option ℕ → Option ℤ
-positive none = none
-positive (some v) = some (pos v)
-
--- T4: no minus stands before 0
-abbrev pub negative : Option ℕ → Option ℤ
-negative none = none
-negative (some zero) = none
-negative (some (suc v)) = some (negsuc v)
-
--- T4: a signed number fits 32 bits; `-` (45) stands before a negative one
+-- T4: a signed number is a whole number that fits 32 bits
 unfoldable pub signed : List ℕ → Option ℤ
-signed [] = none
-signed (b ∷ bs) = cond (eqb b 45) (negative (naturalUpTo 2147483648 bs)) (positive (naturalUpTo 2147483647 (b ∷ bs)))
-
--- T5: the digits of v; any number of steps above v is enough
-unfoldable pub digits : ℕ → ℕ → List ℕ
-digits zero v = []
-digits (suc steps) v = let more = digits steps (v / 10) ++ ((48 + v % 10) ∷ []) in cond (ltb v 10) ((48 + v) ∷ []) more
-
--- T5
-unfoldable pub decimal : ℕ → List ℕ
-decimal v = digits (suc v) v
-
--- T5: a key, signed
-abbrev pub decimalKey : ℤ → List ℕ
-decimalKey (pos v) = decimal v
-decimalKey (negsuc v) = 45 ∷ decimal (suc v)
+signed bs = fitting (whole bs)

@@ -1,12 +1,14 @@
 // The console's text: numbers, fields and lists of fields, read from bytes and rendered to bytes.
+use numbers::Natural;
+use numbers::Whole;
 use words::Field;
 ghost use mathlib.Core.Path.{_≡_};
 ghost use Prim.Native.Nat.{_+_, _≤_};
-ghost use lib.ListN.{length, drop};
-ghost use Rattle.text.specs.Numbers.{isDigit, startsWell, naturalUpTo, unsigned, signed, decimal, decimalKey};
-ghost use Rattle.text.specs.Written.{Written};
-ghost use Rattle.text.specs.Fields.{ofKind, storedIn, readField, keyOf, renderField, before, isDash, readFields, wordsAfter, renderFields};
-ghost use Rattle.text.specs.Answers.{numberOf, signedOf, wordOf, countOf, valueIn, keyIn};
+ghost use lib.ListN.{length};
+ghost use Rattle.numbers.specs.Written.{Written};
+ghost use Rattle.text.specs.Numbers.{unsigned, signed};
+ghost use Rattle.text.specs.Fields.{ofKind, storedIn, readField, renderField, isDash, readFields, wordsAfter, renderFields};
+ghost use Rattle.text.specs.Answers.{numberOf, signedOf, wordOf, countOf, numberIn, signedIn, valueIn, keyIn};
 
 // What a text reads as, as an unsigned number.
 pub enum Number {
@@ -32,77 +34,40 @@ pub enum Fields {
     Unreadable,
 }
 
-// T1
-fn is_digit(b: u8) -> bool
-    ensures { λ r. ⌜ r ≡ isDigit b ⌝ }
+// T3
+fn in_32_bits(n: Natural) -> Number
+    ensures { λ r. ⌜ r ≡ numberIn n ⌝ }
 {
-    (48 <= b) & (b <= 57)
-}
-
-// T2
-fn starts_well(text: &[u8]) -> bool
-    ensures { λ r. ⌜ r ≡ startsWell (now (text .entry)) ⌝ }
-{
-    if text.len() == 0 {
-        return false;
+    match n {
+        Natural::Value(v) => Number::Value(v),
+        Natural::Large => Number::Unreadable,
+        Natural::Unreadable => Number::Unreadable,
     }
-    if text.len() == 1 {
-        return true;
-    }
-    text[0] != 48
-}
-
-// T2: left at the first byte that is no digit or takes the value past the most that is asked for.
-fn read_up_to(text: &[u8], most: u32) -> Number
-    ensures { λ r. ⌜ r ≡ numberOf (naturalUpTo most (now (text .entry))) ⌝ }
-{
-    if !starts_well(text) {
-        return Number::Unreadable;
-    }
-    let mut value: u64 = 0;
-    let mut i = 0;
-    while i < text.len() {
-        let b = text[i];
-        if !is_digit(b) {
-            return Number::Unreadable;
-        }
-        value = 10 * value + (b - 48) as u64;
-        if (most as u64) < value {
-            return Number::Unreadable;
-        }
-        i += 1;
-    }
-    Number::Value(value as u32)
 }
 
 // T3
 pub fn read_unsigned(text: &[u8]) -> Number
     ensures { λ r. ⌜ r ≡ numberOf (unsigned (now (text .entry))) ⌝ }
 {
-    read_up_to(text, 4294967295)
+    in_32_bits(numbers::read_natural(text, 4294967295))
+}
+
+// T4
+fn in_32_signed(k: Whole) -> SignedNumber
+    ensures { λ r. ⌜ r ≡ signedIn k ⌝ }
+{
+    match k {
+        Whole::Value(v) => SignedNumber::Value(v),
+        Whole::Large => SignedNumber::Unreadable,
+        Whole::Unreadable => SignedNumber::Unreadable,
+    }
 }
 
 // T4
 pub fn read_signed(text: &[u8]) -> SignedNumber
     ensures { λ r. ⌜ r ≡ signedOf (signed (now (text .entry))) ⌝ }
 {
-    if text.len() == 0 {
-        return SignedNumber::Unreadable;
-    }
-    if text[0] == 45 {
-        let Number::Value(v) = read_up_to(&text[1..], 2147483648) else {
-            return SignedNumber::Unreadable;
-        };
-        if v == 0 {
-            return SignedNumber::Unreadable;
-        }
-        let size = v as i64;
-        return SignedNumber::Value((-size) as i32);
-    }
-    let Number::Value(v) = read_up_to(text, 2147483647) else {
-        return SignedNumber::Unreadable;
-    };
-    SignedNumber::Value(v as i32)
+    in_32_signed(numbers::read_whole(text))
 }
 
 // T6
@@ -152,20 +117,6 @@ fn of_key(key: SignedNumber) -> Word
     Word::Field(8589934592 + words::stored_key(k))
 }
 
-// T7: where the part that begins there ends.
-pub fn part_end(text: &[u8], at: usize, sep: u8) -> usize
-    ensures { λ r. ⌜ r ≡ at + length (before sep (drop at (now (text .entry)))) ⌝ }
-{
-    let mut i = at;
-    while i < text.len() {
-        if text[i] == sep {
-            return i;
-        }
-        i += 1;
-    }
-    i
-}
-
 // T8
 fn is_dash(text: &[u8]) -> bool
     ensures { λ r. ⌜ r ≡ isDash (now (text .entry)) ⌝ }
@@ -188,7 +139,7 @@ pub fn read_fields(text: &[u8], fields: &mut [u64]) -> Fields
     let mut at = 0;
     let mut n = 0;
     while n < 16 {
-        let end = part_end(text, at, 44);
+        let end = numbers::part_end(text, at, 44);
         let Word::Field(w) = read_field(&text[at..end]) else {
             return Fields::Unreadable;
         };
@@ -202,32 +153,6 @@ pub fn read_fields(text: &[u8], fields: &mut [u64]) -> Fields
     Fields::Unreadable
 }
 
-// T5: the digits of a tenth, and then the last digit.
-pub fn render_decimal(v: u64, out: &mut [u8], at: usize) -> usize
-    requires { ⌜ at + length (decimal v) ≤ length (now out) ⌝ }
-    ensures { λ r. ⌜ Written (now (out .entry)) at (decimal v) (now (out .exit)) r ⌝ }
-{
-    if v < 10 {
-        out[at] = (48 + v) as u8;
-        return at + 1;
-    }
-    let end = render_decimal(v / 10, out, at);
-    out[end] = (48 + v % 10) as u8;
-    end + 1
-}
-
-// T5: a stored key, as the key that it stands for.
-fn render_key(s: u64, out: &mut [u8], at: usize) -> usize
-    requires { ⌜ at + length (decimalKey (keyOf s)) ≤ length (now out) ⌝ }
-    ensures { λ r. ⌜ Written (now (out .entry)) at (decimalKey (keyOf s)) (now (out .exit)) r ⌝ }
-{
-    if 31 <= s {
-        return render_decimal(s - 31, out, at);
-    }
-    out[at] = 45;
-    render_decimal(31 - s, out, at + 1)
-}
-
 // T6
 pub fn render_field(w: u64, out: &mut [u8], at: usize) -> usize
     requires { ⌜ at + length (renderField w) ≤ length (now out) ⌝ }
@@ -237,15 +162,15 @@ pub fn render_field(w: u64, out: &mut [u8], at: usize) -> usize
     match f {
         Field::Message(v) => {
             out[at] = 109;
-            render_decimal(v, out, at + 1)
+            numbers::render_decimal(v, out, at + 1)
         }
         Field::Partition(c) => {
             out[at] = 112;
-            render_decimal(c, out, at + 1)
+            numbers::render_decimal(c, out, at + 1)
         }
         Field::Key(k) => {
             out[at] = 107;
-            render_key(k, out, at + 1)
+            numbers::render_key(k, out, at + 1)
         }
         Field::Wildcard => {
             out[at] = 42;
@@ -253,11 +178,11 @@ pub fn render_field(w: u64, out: &mut [u8], at: usize) -> usize
         }
         Field::AtLeast(v) => {
             out[at] = 103;
-            render_decimal(v, out, at + 1)
+            numbers::render_decimal(v, out, at + 1)
         }
         Field::AtMost(v) => {
             out[at] = 108;
-            render_decimal(v, out, at + 1)
+            numbers::render_decimal(v, out, at + 1)
         }
         Field::Bad => {
             out[at] = 63;

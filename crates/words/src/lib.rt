@@ -1,9 +1,10 @@
-// One word: the bits of holdings, the kinds of field words, stored keys.
+// Words: the bits of holdings, the kinds of field words, stored keys.
 ghost use mathlib.Core.Path.{_≡_};
 ghost use mathlib.Core.Bool.{true};
 ghost use Prim.Native.Nat.{_<_};
+ghost use lib.ListN.{length};
 ghost use Rattle.rules.specs.Lists.{all};
-ghost use Rattle.rules.specs.Names.{bit, withBit, heldIn, keyInRange, coKey, stored};
+ghost use Rattle.rules.specs.Names.{bit, withBit, setBit, heldIn, keyInRange, coKey, stored};
 ghost use Rattle.rules.specs.Fields.{field, putField, templateField, nameIn, fieldAgrees};
 ghost use Rattle.words.specs.Kind.{meant, plain};
 
@@ -148,6 +149,15 @@ pub fn with_bit(w: u64, c: u64) -> u64
     ensures { λ r. ⌜ r ≡ withBit w c ⌝ }
 {
     w | (1u64 << c)
+}
+
+// L2, L3
+pub fn set_bit(ws: &mut [u64], at: usize, c: u64)
+    requires { ⌜ (at < length (now ws)) × (c < 64) ⌝ }
+    ensures { λ _. ⌜ now (ws .exit) ≡ setBit at c (now (ws .entry)) ⌝ }
+{
+    let w = with_bit(ws[at], c);
+    ws[at] = w;
 }
 
 // N3

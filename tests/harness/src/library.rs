@@ -41,6 +41,18 @@ extern "C" {
         result: *mut u64,
         result_len: usize,
     ) -> u32;
+
+    fn space_read_roster(
+        file: *const u8,
+        file_len: usize,
+        roster: *mut u64,
+        roster_len: usize,
+    ) -> u32;
+}
+
+/// Reads a roster file into the lent words. Sound as the calls below are.
+pub fn read_roster(file: &[u8], roster: &mut [u64]) -> u32 {
+    unsafe { space_read_roster(file.as_ptr(), file.len(), roster.as_mut_ptr(), roster.len()) }
 }
 
 /// The calls of `libspace_c.a`.

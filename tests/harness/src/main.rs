@@ -1,10 +1,11 @@
-//! Tests the shared space's library and its console program against the reference.
+//! Tests the shared space's library and its programs against the reference.
 //!
 //! Parts are named as arguments: `cases`, `differential` and `isolation` test the linked library,
-//! `console` the program that the variable `CONSOLE` names, `variants` the harness itself, and
+//! `console` the program that the variable `CONSOLE` names, `roster` the program that `ROSTER`
+//! names and the linked library's reading of roster files, `variants` the harness itself, and
 //! `reference` does with the reference what the first three do with the library. A part that is
 //! named must be runnable. Without arguments all parts run except those that lack a library or a
-//! console, which are printed as skipped. The library is linked if `SPACE_LIB_DIR` names its
+//! program, which are printed as skipped. The library is linked if `SPACE_LIB_DIR` names its
 //! directory when the harness is built.
 
 mod bounds;
@@ -13,13 +14,18 @@ mod cases;
 mod console;
 mod differential;
 mod duel;
+mod edge;
 mod guarded;
 mod isolation;
 #[cfg(library_linked)]
 mod library;
 mod pool;
+mod program;
 mod report;
 mod rng;
+mod roster;
+mod roster_files;
+mod roster_tally;
 mod scripts;
 mod space;
 mod tables;
@@ -28,6 +34,7 @@ mod variants;
 
 use reference::Reference;
 use report::Report;
+use roster::ReadRoster;
 use space::Space;
 use std::process::ExitCode;
 use std::time::{Duration, Instant};
@@ -35,13 +42,17 @@ use std::time::{Duration, Instant};
 /// The whole run is ended after this time, whatever hangs.
 const TIME_LIMIT: Duration = Duration::from_secs(600);
 
-const PARTS: [&str; 6] = [
+#[cfg(not(library_linked))]
+const NO_LIBRARY: &str = "built without SPACE_LIB_DIR, no library is linked";
+
+const PARTS: [&str; 7] = [
     "reference",
     "variants",
     "cases",
     "differential",
     "isolation",
     "console",
+    "roster",
 ];
 
 fn main() -> ExitCode {
@@ -80,13 +91,18 @@ fn run_part(report: &mut Report, part: &str) -> Result<(), &'static str> {
         "variants" => {
             variants::check(report);
             isolation::check_variants(report);
+            roster::check_variants(report);
         }
         "cases" => cases::check(report, "library", library()?.as_mut()),
         "differential" => differential::compare(report, "library", library()?.as_mut()),
         "isolation" => isolation::check(report, "library", library()?.as_mut()),
-        _ => {
+        "console" => {
             let program = std::env::var("CONSOLE").map_err(|_| "CONSOLE names no program")?;
             console::compare(report, &program);
+        }
+        _ => {
+            let program = std::env::var("ROSTER").map_err(|_| "ROSTER names no program")?;
+            roster::compare(report, &program, read_roster()?);
         }
     }
     Ok(())
@@ -99,7 +115,17 @@ fn library() -> Result<Box<dyn Space>, &'static str> {
 
 #[cfg(not(library_linked))]
 fn library() -> Result<Box<dyn Space>, &'static str> {
-    Err("built without SPACE_LIB_DIR, no library is linked")
+    Err(NO_LIBRARY)
+}
+
+#[cfg(library_linked)]
+fn read_roster() -> Result<&'static ReadRoster<'static>, &'static str> {
+    Ok(&library::read_roster)
+}
+
+#[cfg(not(library_linked))]
+fn read_roster() -> Result<&'static ReadRoster<'static>, &'static str> {
+    Err(NO_LIBRARY)
 }
 
 /// A part that was asked for by name fails if it can't run.

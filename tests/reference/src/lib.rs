@@ -2,12 +2,15 @@
 //!
 //! It is meant to be compared with, so it is simple and slow on purpose: every call tests the
 //! whole table clause by clause and counts rows anew. `Variant` selects a known blunder, with
-//! which the comparison itself is tested; `Reference::correct` has none.
+//! which the comparison itself is tested; `Reference::correct` has none. The same of roster files:
+//! `RosterVariant` and `RosterReader::correct`.
 
 pub mod answer;
 pub mod calls;
 pub mod console;
 pub mod names;
+pub mod roster;
+pub mod roster_variant;
 pub mod table;
 pub mod variant;
 
@@ -15,5 +18,7 @@ pub use answer::Answer;
 pub use calls::{Operation, Query, Reference};
 pub use console::console;
 pub use names::{co_key, Field, Pair};
+pub use roster::{read_roster, roster, RosterReader};
+pub use roster_variant::RosterVariant;
 pub use table::Clause;
 pub use variant::Variant;

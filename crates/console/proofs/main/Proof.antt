@@ -7,7 +7,8 @@ use Rattle.rules.specs.Words.{zeros}
 use Rattle.session.specs.declared.Turn.{Turn}
 use Rattle.session.specs.declared.Turn.the-variants.{Go}
 use native.Mathlib.Omega.{arith}
-use Rattle.console.proofs.Turns.{Fine, Running, left, printed-fits, turn-fine, turn-less}
+use Rattle.numbers.proofs.Placing.{written-fits}
+use Rattle.console.proofs.Turns.{Fine, Running, left, turn-fine, turn-less}
 use borrow.Author.Needs.{needs}
 use Rattle.console.proofs.main.Statement.{statement}
 use Rattle.console.proofs.main.Tie as tie
@@ -118,13 +119,14 @@ loop-holds c =
     let b = begun-begin c .begin in
     let small : length (r .last .1 .0) ≡ 65537 = search needs in
     let few : r .result ≤ 65536 = search needs in
+    let whole : length (b .last .1 .0) ≡ 256 = search needs in
     record {
       inputLen = search needs;
       few = search needs;
       spaceLen = search needs;
       rosterLen = search needs;
       outLen = search needs;
-      fits = printed-fits _ _ _ _ (b .ensures .0 .written) (search needs) (search needs);
+      fits = omega (arith, written-fits (b .ensures .0 .written));
       fine = turn-fine (r .last .1 .0) _ small few (b .result) 0 1 0 (zeros 16) (zeros 1809) (b .ensures .1) (omega arith) (omega arith);
     }
 
@@ -190,13 +192,14 @@ loop-again c =
     let i = turn-loop turn .loop .inv in
     let f = going turn in
     let t = again-step c .take-turn in
+    let whole : length (t .last .1 .1 .1 .1 .1 .0) ≡ 256 = search needs in
     record {
       inputLen = search needs;
       few = search needs;
       spaceLen = search needs;
       rosterLen = search needs;
       outLen = search needs;
-      fits = printed-fits _ _ _ _ (t .ensures .0 .written) (i .outLen) (search needs);
+      fits = omega (arith, written-fits (t .ensures .0 .written));
       fine = turn-fine (turn-read turn .read-full .last .1 .0) _ (i .inputLen) (i .few) (t .result) _ _ _ _ _ (t .ensures .1 .0) (f .0) (f .3);
     }
 

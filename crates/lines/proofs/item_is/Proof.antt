@@ -2,7 +2,7 @@
 use mathlib.Core.Path.{ap, _∙_}
 use mathlib.Core.List.{List}
 use Prim.Native.Nat.{ℕ}
-use Rattle.lines.specs.Lines.{same}
+use Rattle.numbers.specs.Parts.{same}
 use borrow.Author.Needs.{needs}
 use Rattle.lines.proofs.item_is.Statement.{statement}
 use Rattle.lines.proofs.item_is.Tie as tie

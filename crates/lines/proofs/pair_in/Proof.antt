@@ -5,7 +5,7 @@ use mir.Facts.{toZ-ofZ}
 use mir.Syntax.{w32}
 use mir.Val.{SFits}
 use Rattle.text.specs.Numbers.{unsigned}
-use Rattle.text.proofs.Digits.{unreadable, readable}
+use Rattle.text.proofs.Numbers.{unreadable, readable}
 use Rattle.lines.specs.Lines.{item}
 use Rattle.lines.proofs.Readers.{no-key, some-key}
 use borrow.Author.Needs.{needs}

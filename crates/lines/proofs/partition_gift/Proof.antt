@@ -3,7 +3,7 @@ use mathlib.Core.Path.{_≡_, sym, _∙_}
 use mathlib.Core.Option.{some}
 use borrow.Author.Tests.{le-leb, lt-leb}
 use Rattle.text.specs.Numbers.{unsigned}
-use Rattle.text.proofs.Digits.{unreadable, readable}
+use Rattle.text.proofs.Numbers.{unreadable, readable}
 use Rattle.lines.specs.Lines.{item}
 use borrow.Author.Needs.{needs}
 use Rattle.lines.proofs.partition_gift.Statement.{statement}

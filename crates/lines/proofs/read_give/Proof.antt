@@ -5,7 +5,7 @@ use mathlib.Core.Bool.{Bool, true, _&&_}
 use mathlib.Core.Option.{some}
 use borrow.Author.Tests.{not-true, not-false}
 use Rattle.text.specs.Numbers.{unsigned}
-use Rattle.text.proofs.Digits.{unreadable, readable}
+use Rattle.text.proofs.Numbers.{unreadable, readable}
 use Rattle.lines.specs.Lines.{item, giftOf, readGive}
 use Rattle.lines.specs.Read.{nameOf, meantGift}
 use Rattle.lines.proofs.Readers.{giftPartition, giftKey, unread, partition-up-to, key-up-to, onlyGift, give-more, give-by, given-to, given-past}

@@ -3,6 +3,7 @@ use mathlib.Core.Path.{_≡_, sym, _∙_}
 use mathlib.Core.Bool.{true, false}
 use borrow.Author.Tests.{eq-eqb, ne-eqb}
 use lib.Dec.{eqb}
+use Rattle.numbers.specs.Parts as parts
 use Rattle.lines.specs.Lines as lines
 use Rattle.lines.proofs.Readers.{unread}
 use borrow.Author.Needs.{needs}
@@ -146,13 +147,13 @@ no-take-is-take c = c .before
 six-blanks : (c : tie.Else1) → eqb (lines.blanks (seven-start c .args .line .now)) 6 ≡ true
 six-blanks c = eq-eqb _ 6 (sym (seven-blanks c .blanks .ensures) ∙ c .if1 .left)
 
-no-give : (c : tie.Else2) → lines.same (lines.item 0 (no-give-start c .args .line .now)) lines.giveWord ≡ false
+no-give : (c : tie.Else2) → parts.same (lines.item 0 (no-give-start c .args .line .now)) lines.giveWord ≡ false
 no-give c = sym (no-give-is-give c .item-is .ensures) ∙ c .if2 .left
 
-no-put : (c : tie.Else3) → lines.same (lines.item 0 (no-put-start c .args .line .now)) lines.putWord ≡ false
+no-put : (c : tie.Else3) → parts.same (lines.item 0 (no-put-start c .args .line .now)) lines.putWord ≡ false
 no-put c = sym (no-put-is-put c .item-is2 .ensures) ∙ c .if3 .left
 
-no-read : (c : tie.Else4) → lines.same (lines.item 0 (no-read-start c .args .line .now)) lines.readWord ≡ false
+no-read : (c : tie.Else4) → parts.same (lines.item 0 (no-read-start c .args .line .now)) lines.readWord ≡ false
 no-read c = sym (no-read-is-read c .item-is3 .ensures) ∙ c .if4 .left
 
 blanks-requires : tie.Need-blanks-requires

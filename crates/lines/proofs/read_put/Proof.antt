@@ -7,7 +7,7 @@ use mir.Val.{toZ, ofZ}
 use mir.Facts.{toZ-ofZ}
 use Rattle.rules.specs.Matching.{pair}
 use Rattle.text.specs.Numbers.{unsigned}
-use Rattle.text.proofs.Digits.{unreadable, readable}
+use Rattle.text.proofs.Numbers.{unreadable, readable}
 use Rattle.lines.specs.Lines.{item, readPair}
 use Rattle.lines.specs.Read.{meantPair}
 use Rattle.lines.proofs.Readers.{no-fields, some-fields, few-fields, unread, put-by}

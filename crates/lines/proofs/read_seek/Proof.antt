@@ -9,7 +9,7 @@ use mir.Facts.{toZ-ofZ}
 use borrow.Author.Tests.{not-true, not-false}
 use Rattle.rules.specs.Matching.{pair}
 use Rattle.text.specs.Numbers.{unsigned}
-use Rattle.text.proofs.Digits.{unreadable, readable}
+use Rattle.text.proofs.Numbers.{unreadable, readable}
 use Rattle.lines.specs.Lines.{item, readPair}
 use Rattle.lines.specs.Read.{noTakePair, meantPair}
 use Rattle.lines.proofs.Readers.{no-fields, some-fields, few-fields, unread, seek-more, seek-by}

@@ -4,8 +4,8 @@ use Prim.Native.Nat.{_≤_}
 use mathlib.Core.Path.{refl, sym}
 use native.Mathlib.Omega.{arith}
 use lib.Seq.{length-take-le}
-use Rattle.text.proofs.Parts.{end-high}
-use Rattle.session.specs.Transcript.{unreadable, inputNames, outputNames}
+use Rattle.numbers.proofs.Parts.{end-high}
+use Rattle.session.specs.Transcript.{inputNames, outputNames, unreadable}
 use Rattle.session.proofs.Bounds.{unreadable-short}
 use Rattle.session.proofs.Follow.{start-short, start-other, start-names, fresh}
 use borrow.Author.Needs.{needs}

@@ -6,11 +6,11 @@ use mathlib.Core.List.{List, [], append-nil}
 use native.Mathlib.Omega.{arith}
 use native.Mathlib.Numerals.{add-one}
 use lib.ListN.{length, take, drop}
-use Rattle.text.specs.Fields.{before, beyond, parts}
-use Rattle.text.specs.Written.{Written}
-use Rattle.text.proofs.Parts.{end-low, end-high, part-is, last-part, further-parts}
-use Rattle.text.proofs.Placing.{written-none}
-use Rattle.session.specs.Transcript.{Phase, lineStep, unreadable, atEnd, transcript}
+use Rattle.numbers.specs.Parts.{before, beyond, parts}
+use Rattle.numbers.specs.Written.{Written}
+use Rattle.numbers.proofs.Parts.{end-low, end-high, part-is, last-part, further-parts}
+use Rattle.numbers.proofs.Placing.{written-none}
+use Rattle.session.specs.Transcript.{Phase, lineStep, atEnd, transcript, unreadable}
 use Rattle.session.specs.Steps.{phaseOf, StepIs}
 use Rattle.session.specs.declared.Step.{Step}
 use Rattle.session.proofs.Bounds.{unreadable-short}

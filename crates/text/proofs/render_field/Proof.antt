@@ -1,11 +1,11 @@
 -- By the kind of the word: a letter and what follows it, or one byte.
 use mathlib.Core.List.{_∷_, []}
 use mathlib.Core.Path.{_∙_, _≡_}
-use Rattle.text.specs.Numbers.{decimal, decimalKey}
-use Rattle.text.specs.Fields.{keyOf, renderField}
+use Rattle.numbers.specs.Numbers.{decimal, decimalKey, keyOf}
+use Rattle.text.specs.Fields.{renderField}
 use borrow.Author.Needs.{needs}
 use lib.ListN.{length-set}
-use Rattle.text.proofs.Placing.{first-room, rest-room, written-rest, written-none}
+use Rattle.numbers.proofs.Placing.{first-room, rest-room, written-rest, written-none}
 use Rattle.text.proofs.Rendering.{render-by}
 use Rattle.text.proofs.render_field.Statement.{statement}
 use Rattle.text.proofs.render_field.Tie as tie

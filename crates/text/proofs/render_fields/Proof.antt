@@ -3,7 +3,7 @@ use mathlib.Core.Path.{_∙_}
 use Prim.Native.Nat.{_-_}
 use borrow.Author.Needs.{needs}
 use lib.ListN.{length}
-use Rattle.text.proofs.Placing.{first-room, written-rest, written-none}
+use Rattle.numbers.proofs.Placing.{first-room, written-rest, written-none}
 use Rattle.text.proofs.Rendering.{fields-none, More, comma-room, field-room, more-on, more-done, begin-room, more-begin, fields-written}
 use Rattle.text.proofs.render_fields.Statement.{statement}
 use Rattle.text.proofs.render_fields.Tie as tie

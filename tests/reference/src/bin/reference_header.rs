@@ -5,6 +5,7 @@ use reference::names::{
     key_bit, key_in_range, partition_bit, Field, Pair, LAST_KEY, LAST_PARTITION, MOST_FIELDS,
     PARTIES,
 };
+use reference::roster::LONGEST_FILE;
 use reference::table::{KEYS, LIMIT, PARTITIONS, ROSTER_WORDS, WORDS};
 use reference::{Answer, Operation, Query, Reference};
 
@@ -164,7 +165,7 @@ fn wrong_in_table(text: &str, answer: u32) -> &str {
 }
 
 fn answer_line(text: &str, answer: u32) {
-    let refusals = (1..=9).map(Answer::Refused);
+    let refusals = (1..=12).map(Answer::Refused);
     let founds = (1..=MOST_FIELDS).map(Answer::Found);
     let known = [Answer::Done, Answer::None]
         .into_iter()
@@ -173,7 +174,7 @@ fn answer_line(text: &str, answer: u32) {
     let refusal = answer.saturating_sub(Answer::Refused(0).code());
     let meaning = match known.into_iter().find(|known| known.code() == answer) {
         Some(Answer::Done | Answer::None) => {
-            "Done, if it was open or put; none, if it was read or take."
+            "Done, if it was open, put or the reading of a roster; none, if it was read or take."
         }
         Some(Answer::Found(_)) => "Found.",
         Some(Answer::Refused(number)) => {
@@ -262,7 +263,7 @@ fn main() {
     let text = std::fs::read_to_string(path).expect("a file that can be read");
     let mut space = vec![0; WORDS];
     let wildcard = Field::Wildcard.word();
-    println!("words {WORDS}, roster {ROSTER_WORDS}, fields {MOST_FIELDS}, parties {PARTIES}, live entries {LIMIT}, partitions to {LAST_PARTITION}, keys to {LAST_KEY}, the wildcard {wildcard}");
+    println!("words {WORDS}, roster {ROSTER_WORDS}, of a file {LONGEST_FILE}, fields {MOST_FIELDS}, parties {PARTIES}, live entries {LIMIT}, partitions to {LAST_PARTITION}, keys to {LAST_KEY}, the wildcard {wildcard}");
     println!("kinds 0 1 2 3 4 5, bad {BAD_KIND}");
     open_for_all(&mut space);
     word_lines(&mut space);

@@ -5,9 +5,9 @@ use mathlib.Core.List.{[], _∷_, _++_, List}
 use lib.ListN.{length}
 use Rattle.space.specs.Answers.{meant}
 use Rattle.space.specs.declared.Answer.{Answer}
-use Rattle.text.specs.Numbers.{decimal}
-use Rattle.text.specs.Written.{Written}
-use Rattle.text.proofs.Placing.{left-room, right-room, written-both}
+use Rattle.numbers.specs.Numbers.{decimal}
+use Rattle.numbers.specs.Written.{Written}
+use Rattle.numbers.proofs.Placing.{left-room, right-room, written-both}
 use Rattle.session.specs.Transcript.{answerText}
 use borrow.Author.Needs.{needs}
 use Rattle.session.proofs.replies.render_answer.Statement.{statement}

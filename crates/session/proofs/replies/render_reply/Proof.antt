@@ -8,10 +8,10 @@ use lib.Seq.{length-take-le}
 use Rattle.rules.specs.Words.{exit}
 use Rattle.rules.specs.Runs.{foundIn}
 use Rattle.space.specs.Answers.{meant}
-use Rattle.text.specs.Numbers.{decimal}
+use Rattle.numbers.specs.Numbers.{decimal}
 use Rattle.text.specs.Fields.{renderFields}
 use Rattle.session.specs.Transcript.{answerText, replyText}
-use Rattle.session.proofs.Placed.{Unfinished, begun, part-room, part-done}
+use Rattle.numbers.proofs.Placed.{Unfinished, begun-front, part-room, part-done}
 use Rattle.session.proofs.FoundFields.{found-fields}
 use borrow.Author.Needs.{needs}
 use Rattle.session.proofs.replies.render_reply.Statement.{statement}
@@ -138,11 +138,11 @@ answerAt s = answerText (meant (s .args .answer))
 
 -- the reply, of which `left` is still to be written from `at` on
 abbrev Replying : tie.Start → List ℕ → ℕ → List ℕ → Type 0
-Replying s out at left = Unfinished (s .args .out .now) (replyText (s .args .number) (exit (meant (s .args .answer)) [] (s .args .result .now))) out at left
+Replying s out at left = Unfinished (s .args .out .now) 0 (replyText (s .args .number) (exit (meant (s .args .answer)) [] (s .args .result .now))) out at left
 
 start : (s : tie.Start) → Replying s (s .args .out .now) 0 (decimal (s .args .number) ++ (32 ∷ (answerAt s ++ (32 ∷ fieldsText s))))
 unfolding replyText fieldsText
-start s = begun _ _ (s .pre .1)
+start s = begun-front _ _ (s .pre .1)
 
 after-number : (c : tie.After-render-decimal)
     → Replying (number-start c) (c .render-decimal .last .1 .0) (c .render-decimal .result)

@@ -2,10 +2,10 @@
 -- that are left still complete the text.
 use Prim.Native.Nat.{ℕ}
 use mathlib.Core.List.{List, [], _∷_, _++_}
-use Rattle.text.specs.Numbers.{decimal}
-use Rattle.session.specs.Transcript.{unreadable}
-use Rattle.session.proofs.Placed.{Unfinished, begun, part-room, part-done}
+use Rattle.numbers.specs.Numbers.{decimal}
+use Rattle.numbers.proofs.Placed.{Unfinished, begun-front, part-room, part-done}
 use borrow.Author.Needs.{needs}
+use Rattle.session.specs.Transcript.{unreadable}
 use Rattle.session.proofs.replies.render_unreadable.Statement.{statement}
 use Rattle.session.proofs.replies.render_unreadable.Tie as tie
 
@@ -65,11 +65,11 @@ restText = 32 ∷ 117 ∷ 110 ∷ 114 ∷ 101 ∷ 97 ∷ 100 ∷ 97 ∷ 98 ∷ 1
 
 -- the line's text, of which `left` is still to be written from `at` on
 abbrev Telling : tie.Start → List ℕ → ℕ → List ℕ → Type 0
-Telling s out at left = Unfinished (s .args .out .now) (unreadable (s .args .number)) out at left
+Telling s out at left = Unfinished (s .args .out .now) 0 (unreadable (s .args .number)) out at left
 
 start : (s : tie.Start) → Telling s (s .args .out .now) 0 (lineText ++ (decimal (s .args .number) ++ restText))
 unfolding lineText restText unreadable
-start s = begun _ _ (s .pre)
+start s = begun-front _ _ (s .pre)
 
 after-line : (c : tie.After-place)
     → Telling (line-start c) (c .place .last .1 .0) (c .place .result) (decimal (line-start c .args .number) ++ restText)

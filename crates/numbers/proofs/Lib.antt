@@ -1,0 +1,9 @@
+pub mod Digits
+pub mod Signed
+pub mod Parts
+pub mod Equal
+pub mod Placing
+pub mod Placed
+pub mod Decimal
+pub mod Keys
+pub mod NumbersBack

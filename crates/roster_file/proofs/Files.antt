@@ -1,0 +1,152 @@
+-- A file line by line: what the lines so far have given, and the lines from here on, decide.
+use Prim.Native.Nat.{ℕ, _+_, _-_, _≤_, _<_}
+use mathlib.Core.Path.{_≡_, refl, sym, ap, _∙_, subst}
+use mathlib.Core.Bool.{true, false}
+use mathlib.Core.List.{List, [], _∷_}
+use native.Mathlib.Omega.{arith}
+use borrow.Author.Tests.{lt-ltb, le-ltb}
+use lib.ListN.{length, take, drop, drop-of-length-le}
+use Rattle.rules.specs.Words.{zeros}
+use Rattle.numbers.specs.Parts.{before, parts, same}
+use Rattle.numbers.proofs.Parts.{end-high, part-is, last-part, further-parts}
+use Rattle.roster_file.specs.Rights.{Said, gives, faulty, readLine}
+use Rattle.roster_file.specs.File.{Outcome, accepted, refused, atEnd, follow, readLines, namesLine, fromStart, readFile}
+use Rattle.roster_file.specs.Answers.{Added, Went, ReadAs}
+use Rattle.roster_file.specs.declared.Reading.{Reading}
+use Rattle.roster_file.specs.declared.Reading.the-variants as reading
+
+-- ---- what follows a line that was added, or was not
+
+module _ (s : Said) (r : Reading) (words after : List ℕ) (a : Added s r words after) where
+  follows : r ≡ reading.Given → (more : List ℕ → Outcome) → follow s words more ≡ more after
+  follows e more = go s a
+    where
+      go : (s : Said) → Added s r words after → follow s words more ≡ more after
+      go (gives who n) b = ap more (sym (b .1))
+      go (faulty n) b = let q : reading.Given ≡ reading.Refused n = sym e ∙ b .0 in let z : _≡_ {A = ℕ} 0 1 = cc in absurd (omega arith)
+
+  stops : (n : ℕ) → r ≡ reading.Refused n → (more : List ℕ → Outcome) → follow s words more ≡ refused n
+  stops n e more = go s a
+    where
+      go : (s : Said) → Added s r words after → follow s words more ≡ refused n
+      go (gives who m) b = let q : reading.Refused n ≡ reading.Given = sym e ∙ b .0 in let z : _≡_ {A = ℕ} 0 1 = cc in absurd (omega arith)
+      go (faulty m) b = let q : reading.Refused m ≡ reading.Refused n = sym (b .0) ∙ e in let x : m ≡ n = cc in ap refused x
+
+-- ---- the line that begins at `at` and ends at `end`
+
+module _ (file : List ℕ) (at end : ℕ) (low : at ≤ length file) (e : end ≡ at + length (before 10 (drop at file))) where
+  -- no line feed ends it, and it is not empty
+  pub unended : (words : List ℕ) → end ≡ length file → at < length file → readLines words (parts 10 (drop at file)) ≡ refused 11
+  unended words h l =
+      ap (λ (ps : List (List ℕ)). readLines words (before 10 (drop at file) ∷ ps)) (last-part 10 file at end low e h)
+      ∙ go (before 10 (drop at file)) (omega arith)
+    where
+      go : (bs : List ℕ) → 0 < length bs → atEnd words bs ≡ refused 11
+      go [] k = absurd (omega arith)
+      go (b ∷ bs) k = refl
+
+  module _ (n : end ≡ length file → ⊥) where
+    -- one line, and then the lines from the next one on
+    one-line : (words : List ℕ)
+        → readLines words (parts 10 (drop at file))
+        ≡ follow (readLine (take (end - at) (drop at file))) words (λ next. readLines next (parts 10 (drop (end + 1) file)))
+    one-line words =
+        ap (λ (ps : List (List ℕ)). readLines words (before 10 (drop at file) ∷ ps)) (further-parts 10 file at end low e n)
+        ∙ ap (λ (l : List ℕ). follow (readLine l) words (λ next. readLines next (parts 10 (drop (end + 1) file)))) (sym (part-is 10 file at end low e))
+
+    module _ (words after : List ℕ) (r : Reading) (a : Added (readLine (take (end - at) (drop at file))) r words after) where
+      pub line-added : r ≡ reading.Given → readLines words (parts 10 (drop at file)) ≡ readLines after (parts 10 (drop (end + 1) file))
+      line-added h =
+          one-line words
+          ∙ follows (readLine (take (end - at) (drop at file))) r words after a h (λ next. readLines next (parts 10 (drop (end + 1) file)))
+
+      pub line-refused : (m : ℕ) → r ≡ reading.Refused m → readLines words (parts 10 (drop at file)) ≡ refused m
+      line-refused m h =
+          one-line words
+          ∙ stops (readLine (take (end - at) (drop at file))) r words after a m h (λ next. readLines next (parts 10 (drop (end + 1) file)))
+
+-- past the last line
+pub all-read : (words file : List ℕ) (at : ℕ) → length file ≤ at → readLines words (parts 10 (drop at file)) ≡ accepted words
+all-read words file at h = rw (drop-of-length-le file h)
+
+-- ---- the start
+
+module _ (file : List ℕ) where
+  pub long-refused : 16384 < length file → readFile file ≡ refused 10
+  unfolding readFile
+  long-refused h = rw (lt-ltb 16384 (length file) h)
+
+  module _ (short : length file ≤ 16384) (end : ℕ) (e : end ≡ 0 + length (before 10 (drop 0 file))) where
+    low : 0 ≤ length file
+    low = omega arith
+
+    pub start-end : end ≤ length file
+    start-end = end-high 10 file 0 end low e
+
+    opened : readFile file ≡ fromStart (parts 10 file)
+    unfolding readFile
+    opened = rw (le-ltb 16384 (length file) short)
+
+    pub start-unended : end ≡ length file → readFile file ≡ refused 10
+    start-unended h = opened ∙ ap (λ (ps : List (List ℕ)). fromStart (before 10 file ∷ ps)) (last-part 10 file 0 end low e h)
+
+    module _ (n : end ≡ length file → ⊥) where
+      parted : readFile file ≡ fromStart (before 10 file ∷ parts 10 (drop (end + 1) file))
+      parted = opened ∙ ap (λ (ps : List (List ℕ)). fromStart (before 10 file ∷ ps)) (further-parts 10 file 0 end low e n)
+
+      first-line : take end file ≡ before 10 file
+      first-line = let z : end - 0 ≡ end = omega arith in ap (λ (n : ℕ). take n file) (sym z) ∙ part-is 10 file 0 end low e
+
+      pub other-names : same (take end file) namesLine ≡ false → readFile file ≡ refused 10
+      other-names h =
+          let q : same (before 10 file) namesLine ≡ false = ap (λ (l : List ℕ). same l namesLine) (sym first-line) ∙ h in
+          parted ∙ rw q
+
+      pub names-read : same (take end file) namesLine ≡ true → readFile file ≡ readLines (zeros 16) (parts 10 (drop (end + 1) file))
+      names-read h =
+          let q : same (before 10 file) namesLine ≡ true = ap (λ (l : List ℕ). same l namesLine) (sym first-line) ∙ h in
+          parted ∙ rw q
+
+-- ---- the outcome in the code's words
+
+pub went-refused : (o : Outcome) (n : ℕ) (r : Reading) (words : List ℕ) → o ≡ refused n → r ≡ reading.Refused n → Went o r words
+went-refused o n r words e h = subst (λ (x : Outcome). Went x r words) (sym e) h
+
+pub went-accepted : (o : Outcome) (words : List ℕ) → o ≡ accepted words → Went o reading.Given words
+went-accepted o words e = subst (λ (x : Outcome). Went x reading.Given words) (sym e) (refl, refl)
+
+pub refused-reads : (o : Outcome) (n : ℕ) (words : List ℕ) → o ≡ refused n → ReadAs o (reading.Refused n) words words
+refused-reads o n words e = subst (λ (x : Outcome). ReadAs x (reading.Refused n) words words) (sym e) (refl, refl)
+
+-- what the lines came to is what the file comes to
+module _ (o : Outcome) (r : Reading) (read : List ℕ) (w : Went o r read) where
+  pub went-read : r ≡ reading.Given → (words after : List ℕ) → after ≡ read → ReadAs o reading.Given words after
+  went-read e words after h = go o w
+    where
+      go : (o : Outcome) → Went o r read → ReadAs o reading.Given words after
+      go (accepted roster) v = (refl, h ∙ v .1)
+      go (refused n) v = let q : reading.Given ≡ reading.Refused n = sym e ∙ v in let z : _≡_ {A = ℕ} 0 1 = cc in absurd (omega arith)
+
+  pub went-unread : (n : ℕ) → r ≡ reading.Refused n → (words : List ℕ) → ReadAs o r words words
+  went-unread n e words = go o w
+    where
+      go : (o : Outcome) → Went o r read → ReadAs o r words words
+      go (accepted roster) v = let q : reading.Refused n ≡ reading.Given = sym e ∙ v .0 in let z : _≡_ {A = ℕ} 0 1 = cc in absurd (omega arith)
+      go (refused m) v = (v, refl)
+
+-- ---- and the other way round: what the reader's answer says of the file
+
+module _ (o : Outcome) (r : Reading) (words after : List ℕ) (a : ReadAs o r words after) where
+  pub given-outcome : r ≡ reading.Given → o ≡ accepted after
+  given-outcome e = go o a
+    where
+      go : (o : Outcome) → ReadAs o r words after → o ≡ accepted after
+      go (accepted roster) b = ap accepted (sym (b .1))
+      go (refused n) b = let q : reading.Given ≡ reading.Refused n = sym e ∙ b .0 in let z : _≡_ {A = ℕ} 0 1 = cc in absurd (omega arith)
+
+  pub refused-outcome : (n : ℕ) → r ≡ reading.Refused n → (o ≡ refused n) × (after ≡ words)
+  refused-outcome n e = go o a
+    where
+      go : (o : Outcome) → ReadAs o r words after → (o ≡ refused n) × (after ≡ words)
+      go (accepted roster) b = let q : reading.Refused n ≡ reading.Given = sym e ∙ b .0 in let z : _≡_ {A = ℕ} 0 1 = cc in absurd (omega arith)
+      go (refused m) b = let q : reading.Refused m ≡ reading.Refused n = sym (b .0) ∙ e in let x : m ≡ n = cc in (ap refused x, b .1)

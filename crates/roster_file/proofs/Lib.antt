@@ -1,0 +1,10 @@
+pub mod Lines
+pub mod Files
+pub mod Faults
+pub mod GivenRights
+pub mod RosterRights
+pub mod FileRights
+pub mod Members
+pub mod PrintedLines
+pub mod PrintedShort
+pub mod ReadBack

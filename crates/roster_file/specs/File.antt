@@ -1,0 +1,44 @@
+-- A whole roster file: the 16 words that it gives, or its refusal.
+use mathlib.Core.Bool.{cond}
+use mathlib.Core.List.{List, [], _∷_}
+use Prim.Native.Nat.{ℕ}
+use lib.Dec.{ltb}
+use lib.ListN.{length}
+use Rattle.rules.specs.Words.{zeros}
+use Rattle.numbers.specs.Parts.{parts, same}
+use Rattle.roster_file.specs.Rights.{Said, gives, faulty, readLine, withRight}
+
+-- D4, D5: the roster that a file gives, or the number by which it is refused
+pub data Outcome : Type 0 where
+  accepted : List ℕ → Outcome
+  refused : ℕ → Outcome
+
+-- D1: what stands after the last line feed is no line: it is empty, or R11 applies
+abbrev pub atEnd : List ℕ → List ℕ → Outcome
+atEnd roster [] = accepted roster
+atEnd roster (b ∷ bs) = refused 11
+
+-- D5: the first faulty line decides
+abbrev pub follow : Said → List ℕ → (List ℕ → Outcome) → Outcome
+follow (gives who n) roster more = more (withRight who n roster)
+follow (faulty n) roster more = refused n
+
+-- D4, D5: the parts that line feeds end, and the one after the last, with what the lines before have given
+abbrev pub readLines : List ℕ → List (List ℕ) → Outcome
+readLines roster [] = accepted roster
+readLines roster (l ∷ []) = atEnd roster l
+readLines roster (l ∷ m ∷ ls) = follow (readLine l) roster (λ next. readLines next (m ∷ ls))
+
+-- D1: the names line: "party kind name"
+unfoldable pub namesLine : List ℕ
+namesLine = 112 ∷ 97 ∷ 114 ∷ 116 ∷ 121 ∷ 32 ∷ 107 ∷ 105 ∷ 110 ∷ 100 ∷ 32 ∷ 110 ∷ 97 ∷ 109 ∷ 101 ∷ []
+
+-- D1, R10: the first line is the names line
+abbrev pub fromStart : List (List ℕ) → Outcome
+fromStart [] = refused 10
+fromStart (l ∷ []) = refused 10
+fromStart (l ∷ m ∷ ls) = cond (same l namesLine) (readLines (zeros 16) (m ∷ ls)) (refused 10)
+
+-- D1, R10: a file of at most 16,384 bytes, by its lines, which line feeds (10) end
+unfoldable pub readFile : List ℕ → Outcome
+readFile file = cond (ltb 16384 (length file)) (refused 10) (fromStart (parts 10 file))

@@ -1,0 +1,5 @@
+pub mod Rights
+pub mod File
+pub mod Printed
+pub mod Claims
+pub mod Answers
