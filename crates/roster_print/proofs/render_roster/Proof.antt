@@ -81,7 +81,7 @@ turn-text : (c : tie.In-loop Inv-loop μ-loop)
     → let l = turn-loop c .loop in let roster = turn-start c .args .roster .now in
     Unfinished (loop-names (turn-loop c) .place .last .1 .0) (loop-names (turn-loop c) .place .result) (partiesFrom roster 0) (l .out) (l .end)
     (partyText roster (l .party) ++ partiesFrom roster (l .party + 1))
-turn-text c = left-as _ _ (one-party (turn-start c .args .roster .now) (turn-loop c .loop .party) (c .loop-test .taken)) (turn-loop c .loop .inv .2)
+turn-text c = left-as _ _ (one-party (turn-start c .args .roster .now) (turn-loop c .loop .party) (omega (arith, c .loop-test .taken))) (turn-loop c .loop .inv .2)
 
 slice-aggregate-place : tie.Need-slice-aggregate-place Inv-loop μ-loop
 slice-aggregate-place c = search needs
@@ -98,7 +98,7 @@ render-party-requires c κs =
     let turn = to-party-turn c in
     let l = turn-loop turn .loop in
     let roster = turn-start turn .args .roster .now in
-    (turn-start turn .pre .0, turn .loop-test .taken, part-room (partyText roster (l .party)) (partiesFrom roster (l .party + 1)) (turn-text turn))
+    (turn-start turn .pre .0, omega (arith, turn .loop-test .taken), part-room (partyText roster (l .party)) (partiesFrom roster (l .party + 1)) (turn-text turn))
 
 add-party : tie.Need-add-party Inv-loop μ-loop
 add-party c = search needs
