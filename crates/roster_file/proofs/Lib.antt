@@ -8,3 +8,4 @@ pub mod Members
 pub mod PrintedLines
 pub mod PrintedShort
 pub mod ReadBack
+pub mod UsualLines

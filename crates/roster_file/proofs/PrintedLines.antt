@@ -88,7 +88,7 @@ name-free : (n : Name) → free 10 (nameText n) ≡ true
 name-free (partition c) = decimal-free 10 refl c
 name-free (key s) = key-free 10 (record { digit = refl; minus = refl }) (keyOf s)
 
-right-free : (who : ℕ) (n : Name) → free 10 (rightText who n) ≡ true
+pub right-free : (who : ℕ) (n : Name) → free 10 (rightText who n) ≡ true
 unfolding rightText
 right-free who n = all-append (λ b. not (eqb b 10)) (decimal who) (32 ∷ nameText n) ∙ rw (decimal-free 10 refl who) (name-free n)
 

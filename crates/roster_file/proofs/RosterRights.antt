@@ -50,7 +50,7 @@ pub word-low : (who : ℕ) (n : Name) → who < 8 → wordOf who n < 16
 word-low who (partition c) h = omega arith
 word-low who (key s) h = omega arith
 
-bit-low : (n : Name) → NameInRange n → bitOf n < 64
+pub bit-low : (n : Name) → NameInRange n → bitOf n < 64
 bit-low (partition c) h = omega arith
 bit-low (key s) h = omega arith
 

@@ -1,5 +1,5 @@
 -- By the start of the file, and then by its lines; the words are copied only where all of them are good.
-use Prim.Native.Nat.{ℕ, _+_, _≤_}
+use Prim.Native.Nat.{ℕ, _≤_}
 use mathlib.Core.Path.{_≡_, refl, sym, ap, _∙_, subst}
 use mathlib.Core.List.{List, [], _++_, append-nil}
 use native.Mathlib.Omega.{arith}
@@ -133,7 +133,7 @@ slice-aggregate-read-lines c = search needs
 read-lines-requires : tie.Need-read-lines-requires
 read-lines-requires c κs =
     let begun = made-begun c in
-    (omega (arith, high (begun-end begun), names-line (begun-names begun) .if2 .left), refl)
+    (end-short (begun-end begun) .if1 .left, omega (arith, high (begun-end begun), names-line (begun-names begun) .if2 .left), refl)
 
 enum-told : tie.Need-enum-told
 enum-told c = search needs
