@@ -50,7 +50,7 @@ static uint32_t read_roster(void) { return space_read_roster(file, file_len, giv
 static const struct workload {
     char letter;
     uint32_t live;
-    enum { RISING, FALLING, TWELVE, ALL, LONGEST, UNREADABLE } order;
+    enum { RISING, FALLING, TWELVE, ALL, LONGEST, UNREADABLE, DIGITS } order;
     uint32_t sum, (*round)(void);
 } workloads[] = {
     {'.', 0, RISING, 0, nothing},
@@ -72,6 +72,7 @@ static const struct workload {
     {'p', 0, ALL, 0, read_roster},
     {'q', 0, LONGEST, 0, read_roster},
     {'r', 0, UNREADABLE, 111, read_roster},
+    {'s', 0, DIGITS, 112, read_roster},
 };
 enum { WORKLOADS = sizeof workloads / sizeof *workloads };
 
@@ -88,7 +89,8 @@ static void add_right(int party, char kind, int name)
     add(text);
 }
 
-/* The card of a workload: 12 rights; or all 1,016; or as many lines as 16,384 bytes hold; or 12 with a first line that can't be read. */
+/* The card of a workload: 12 rights; or all 1,016; or as many lines as 16,384 bytes hold; or 12 with a first line that can't be read; or
+   one line of 16,384 bytes, whose number is out of range. */
 static void prepare_card(const struct workload *w)
 {
     file_len = 0;
@@ -100,7 +102,11 @@ static void prepare_card(const struct workload *w)
         }
     else if (w->order == LONGEST)
         for (int party = 0; file_len < SPACE_ROSTER_FILE_BYTES; party = (party + 1) % 8) add_right(party, party % 2 ? 'k' : 'p', party);
-    else
+    else if (w->order == DIGITS) {
+        add("0 p 9");
+        while (file_len < SPACE_ROSTER_FILE_BYTES - 1) file[file_len++] = '0';
+        add("\n");
+    } else
         add("0 p 1\n0 k 7\n0 k -7\n1 p 1\n1 k -7\n1 p 10\n1 k 3\n2 p 1\n2 k -7\n2 p 11\n2 k 31\n3 p 63\n");
 }
 
