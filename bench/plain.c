@@ -1,8 +1,8 @@
 /* The shared space in plain C, made as fast as we could: what the proved library is measured against.
    The space is 1809 words: the count of live rows, the partitions and then the keys that each of the eight parties holds, and
    128 rows of 14 words: the writer, the read pair, the take pair (a partition and a key's place each), the field count and
-   eight fields. Every call looks at every word of it (scan); for a read or take the same pass finds the entry, unless the
-   template has a bound: then another pass does (search).
+   eight fields. Every call goes over every word of it (scan); for a look, receive or take the same pass finds the entry, unless
+   the template has a bound: then another pass does (search).
    GNU C for little-endian machines. It keeps nothing outside the slices that it is lent. */
 #include "plain.h"
 #include <string.h>
@@ -138,6 +138,32 @@ INLINE void close_up(uint64_t *row, const uint64_t *live)
 #define MOVE(i) *row++ = *from++; HIDE(row); HIDE(from);
     while (from != live) { FOURTEEN(MOVE) }
 #endif
+}
+#endif
+
+/* copy: 1 to 8 words. */
+#if defined __thumb__ && !defined __thumb2__
+NOINLINE void copy(uint64_t *to, const uint64_t *from, uint32_t n)
+{
+    do {
+        *to++ = *from++;
+        HIDE(to);
+        HIDE(from);
+    } while (--n);
+}
+#else
+INLINE void copy(uint64_t *restrict to, const uint64_t *restrict from, uint32_t n)
+{
+    switch (n) {
+    case 8: to[7] = from[7]; /* fall through */
+    case 7: to[6] = from[6]; /* fall through */
+    case 6: to[5] = from[5]; /* fall through */
+    case 5: to[4] = from[4]; /* fall through */
+    case 4: to[3] = from[3]; /* fall through */
+    case 3: to[2] = from[2]; /* fall through */
+    case 2: to[1] = from[1]; /* fall through */
+    default: to[0] = from[0];
+    }
 }
 #endif
 
@@ -416,7 +442,7 @@ uint32_t plain_put(uint64_t *restrict s, uint64_t len, uint32_t party, uint32_t 
     row[TAKE] = take_partition;
     row[TAKE + 1] = (uint32_t)(take_key + 31);
     row[COUNT] = count;
-    for (uint32_t i = 0; i < count; i++) row[FIELD + i] = f[i];
+    copy(row + FIELD, f, count);
     s[0] = low(s[0]) + 1;
     return 0;
 }
@@ -457,59 +483,76 @@ INLINE uint32_t prepare(struct template *t, const uint64_t *s, uint32_t party, u
     return kinds >= 4 ? BOUNDED : 0;
 }
 
-/* The answer of a read or take, and its effect, once the row is looked for. */
-INLINE uint32_t deliver(const struct template *t, uint64_t *restrict s, uint32_t party, uint32_t count,
-                        uint64_t *restrict result, int at)
-{
-    if (!t->found) return 0;
-    uint64_t *row = s + (t->found - s);
-    uint32_t kinds = 0;
-    for (uint32_t i = 0; i < count; i++) {
-        uint64_t w = row[FIELD + i];
-        kinds |= high(w);
-        result[i] = w;
-    }
-    if (at == TAKE) {
-        uint64_t *live = s + FIRST + ROW * low(s[0]);
-        close_up(row, live);
-        clean(live - ROW, 1);
-        s[0] = low(s[0]) - 1;
-    }
-    if (kinds) gain(s, party, result, count);
-    return count;
-}
-
-NOINLINE uint32_t seek_bounded(struct template *t, uint64_t *s, uint32_t party, uint64_t *result, int at)
+/* Soundness first, then the search. */
+NOINLINE uint32_t find_bounded(struct template *t, int at)
 {
     uint64_t charges;
-    if (!sound(s, &charges)) return 101;
+    if (!sound(t->space, &charges)) return 101;
     search(t, at);
-    return deliver(t, s, party, t->count, result, at);
+    return 0;
 }
 
-INLINE uint32_t seek(uint64_t *restrict s, uint64_t len, uint32_t party, uint32_t partition, int32_t key,
-                     const uint64_t *restrict f, uint64_t n, uint64_t *restrict result, uint64_t room, int at)
+/* Looks for the entry; the answer is the refusal, or 0. */
+INLINE uint32_t find(struct template *t, const uint64_t *s, uint64_t len, uint32_t party, uint32_t partition, int32_t key,
+                     const uint64_t *f, uint64_t n, uint64_t room, int at)
 {
-    struct template t;
     uint64_t charges;
     if (len != WORDS) return 101;
-    uint32_t refusal = prepare(&t, s, party, partition, key, f, n, room, at);
-    if (refusal == BOUNDED) return seek_bounded(&t, s, party, result, at);
+    uint32_t refusal = prepare(t, s, party, partition, key, f, n, room, at);
+    if (refusal == BOUNDED) return find_bounded(t, at);
     if (refusal) return sound(s, &charges) ? refusal : 101;
-    if (!(at == READ ? sound_read(&t) : sound_take(&t))) return 101;
-    return deliver(&t, s, party, low(n), result, at);
+    return (at == READ ? sound_read(t) : sound_take(t)) ? 0 : 101;
 }
 
-uint32_t plain_read(uint64_t *restrict s, uint64_t len, uint32_t party, uint32_t partition, int32_t key,
+/* The entry's fields for the result, and the names in them for the party. */
+INLINE void hand_over(const struct template *t, uint64_t *restrict s, uint32_t party, uint64_t *restrict result)
+{
+    const uint64_t *f = t->found + FIELD;
+    uint32_t count = t->count, kinds = 0;
+    for (uint32_t i = 0; i < count; i++) {
+        kinds |= high(f[i]);
+        result[i] = f[i];
+    }
+    if (kinds) gain(s, party, result, count);
+}
+
+INLINE void remove_row(uint64_t *s, uint64_t *row)
+{
+    uint64_t *live = s + FIRST + ROW * low(s[0]);
+    close_up(row, live);
+    clean(live - ROW, 1);
+    s[0] = low(s[0]) - 1;
+}
+
+/* A look, receive or take, by the pair that it goes by and by whether it gives names. A look writes nothing to s. */
+INLINE uint32_t seek(uint64_t *restrict s, uint64_t len, uint32_t party, uint32_t partition, int32_t key,
+                     const uint64_t *restrict f, uint64_t n, uint64_t *restrict result, uint64_t room, int at, int gives)
+{
+    struct template t;
+    uint32_t refusal = find(&t, s, len, party, partition, key, f, n, room, at);
+    if (refusal || !t.found) return refusal;
+    if (gives) hand_over(&t, s, party, result);
+    else copy(result, t.found + FIELD, t.count);
+    if (at == TAKE) remove_row(s, s + (t.found - s));
+    return t.count;
+}
+
+uint32_t plain_look(const uint64_t *restrict s, uint64_t len, uint32_t party, uint32_t partition, int32_t key,
                     const uint64_t *restrict f, uint64_t n, uint64_t *restrict result, uint64_t room)
 {
-    return seek(s, len, party, partition, key, f, n, result, room, READ);
+    return seek((uint64_t *)s, len, party, partition, key, f, n, result, room, READ, 0);
+}
+
+uint32_t plain_receive(uint64_t *restrict s, uint64_t len, uint32_t party, uint32_t partition, int32_t key,
+                       const uint64_t *restrict f, uint64_t n, uint64_t *restrict result, uint64_t room)
+{
+    return seek(s, len, party, partition, key, f, n, result, room, READ, 1);
 }
 
 uint32_t plain_take(uint64_t *restrict s, uint64_t len, uint32_t party, uint32_t partition, int32_t key,
                     const uint64_t *restrict f, uint64_t n, uint64_t *restrict result, uint64_t room)
 {
-    return seek(s, len, party, partition, key, f, n, result, room, TAKE);
+    return seek(s, len, party, partition, key, f, n, result, room, TAKE, 1);
 }
 
 /* 5. A roster from a file. A line that gives a right has one digit, p or k and at most two digits more, with a minus at most. So

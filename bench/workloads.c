@@ -12,6 +12,8 @@
 #include <stdlib.h>
 #include <string.h>
 
+#define PARTITION (1ull << 32)
+#define KEY (2ull << 32)
 #define ANY (3ull << 32)
 #define AT_LEAST (4ull << 32)
 #define AT_MOST (5ull << 32)
@@ -28,51 +30,58 @@ static const uint64_t most[8] = {ANY, ANY, ANY, ANY, ANY, ANY, ANY, AT_MOST + 10
 
 static uint32_t nothing(void) { return 0; }
 static uint32_t put_take(void) { return space_put(space, WORDS, 0, 0, 0, 0, 0, one, 1) + space_take(space, WORDS, 0, 0, 0, any1, 1, result, 8); }
-static uint32_t read_last(void) { return space_read(space, WORDS, 0, 0, 0, last, 8, result, 8); }
+static uint32_t look_last(void) { return space_look(space, WORDS, 0, 0, 0, last, 8, result, 8); }
 static uint32_t take_oldest_put(void)
 {
     uint32_t found = space_take(space, WORDS, 0, 0, 0, any8, 8, result, 8);
     return found + space_put(space, WORDS, 0, 0, 0, 0, 0, result, 8);
 }
-static uint32_t read_refused(void) { return space_read(space, WORDS, 0, 40, 0, last, 8, result, 8); }
+static uint32_t look_refused(void) { return space_look(space, WORDS, 0, 40, 0, last, 8, result, 8); }
 static uint32_t open_(void) { return space_open(space, WORDS, roster, 16); }
 static uint32_t put1(void) { return space_put(space, WORDS, 0, 0, 0, 0, 0, one, 1); }
-static uint32_t read1(void) { return space_read(space, WORDS, 0, 0, 0, any1, 1, result, 8); }
+static uint32_t look1(void) { return space_look(space, WORDS, 0, 0, 0, any1, 1, result, 8); }
 static uint32_t put8(void) { return space_put(space, WORDS, 7, 0, 0, 0, 0, entry, 8); }
-static uint32_t read_elsewhere(void) { return space_read(space, WORDS, 0, 3, 0, last, 8, result, 8); }
+static uint32_t look_elsewhere(void) { return space_look(space, WORDS, 0, 3, 0, last, 8, result, 8); }
 static uint32_t take_oldest(void) { return space_take(space, WORDS, 0, 0, 0, any8, 8, result, 8); }
 static uint32_t take_last(void) { return space_take(space, WORDS, 0, 0, 0, last, 8, result, 8); }
-static uint32_t read_at_least(void) { return space_read(space, WORDS, 0, 0, 0, least, 8, result, 8); }
-static uint32_t read_at_most(void) { return space_read(space, WORDS, 0, 0, 0, most, 8, result, 8); }
+static uint32_t look_at_least(void) { return space_look(space, WORDS, 0, 0, 0, least, 8, result, 8); }
+static uint32_t look_at_most(void) { return space_look(space, WORDS, 0, 0, 0, most, 8, result, 8); }
+static uint32_t receive_last(void) { return space_receive(space, WORDS, 0, 0, 0, last, 8, result, 8); }
+static uint32_t look_names(void) { return space_look(space, WORDS, 0, 3, 0, any8, 8, result, 8); }
+static uint32_t receive_names(void) { return space_receive(space, WORDS, 0, 3, 0, any8, 8, result, 8); }
 static uint32_t read_roster(void) { return space_read_roster(file, file_len, given, 16); }
 
-/* live entries before the round, how their last messages go, and the sum of the answers; for the reading of a roster the card */
+/* live entries before the round, how their last messages go or what the last entry carries, and the sum of the answers; for the reading
+   of a roster the card */
 static const struct workload {
     char letter;
     uint32_t live;
-    enum { RISING, FALLING, TWELVE, ALL, LONGEST, UNREADABLE, DIGITS } order;
+    enum { RISING, FALLING, NAMES, TWELVE, ALL, LONGEST, UNREADABLE, DIGITS } order;
     uint32_t sum, (*round)(void);
 } workloads[] = {
     {'.', 0, RISING, 0, nothing},
     {'a', 0, RISING, 0 + 1, put_take},
-    {'b', 128, RISING, 8, read_last},
+    {'b', 128, RISING, 8, look_last},
     {'c', 128, RISING, 8 + 0, take_oldest_put},
-    {'d', 128, RISING, 107, read_refused},
+    {'d', 128, RISING, 107, look_refused},
     {'e', 128, RISING, 0, open_},
     {'f', 0, RISING, 0, put1},
-    {'g', 0, RISING, 0, read1},
+    {'g', 0, RISING, 0, look1},
     {'h', 127, RISING, 0, put8},
     {'i', 128, RISING, 108, put8},
-    {'j', 128, RISING, 0, read_elsewhere},
+    {'j', 128, RISING, 0, look_elsewhere},
     {'k', 128, RISING, 8, take_oldest},
     {'l', 128, RISING, 8, take_last},
-    {'m', 128, RISING, 8, read_at_least},
-    {'n', 128, FALLING, 8, read_at_most},
-    {'o', 0, TWELVE, 0, read_roster},
-    {'p', 0, ALL, 0, read_roster},
-    {'q', 0, LONGEST, 0, read_roster},
-    {'r', 0, UNREADABLE, 111, read_roster},
-    {'s', 0, DIGITS, 112, read_roster},
+    {'m', 128, RISING, 8, look_at_least},
+    {'n', 128, FALLING, 8, look_at_most},
+    {'o', 128, RISING, 8, receive_last},
+    {'p', 128, NAMES, 8, look_names},
+    {'q', 128, NAMES, 8, receive_names},
+    {'r', 0, TWELVE, 0, read_roster},
+    {'s', 0, ALL, 0, read_roster},
+    {'t', 0, LONGEST, 0, read_roster},
+    {'u', 0, UNREADABLE, 111, read_roster},
+    {'v', 0, DIGITS, 112, read_roster},
 };
 enum { WORKLOADS = sizeof workloads / sizeof *workloads };
 
@@ -110,6 +119,13 @@ static void prepare_card(const struct workload *w)
         add("0 p 1\n0 k 7\n0 k -7\n1 p 1\n1 k -7\n1 p 10\n1 k 3\n2 p 1\n2 k -7\n2 p 11\n2 k 31\n3 p 63\n");
 }
 
+/* The last row with eight names that nobody holds, in a partition of its own. */
+static void prepare_names(uint64_t *row)
+{
+    row[1] = 3;
+    for (uint32_t i = 0; i < 8; i++) row[6 + i] = (i % 2 ? KEY : PARTITION) + 40 + i;
+}
+
 /* Words written as they stand, so that nothing but the round calls the library. Party p writes 16 rows of 8 messages, under the
    defaults; the last message goes from 100 up or from 227 down. Everybody holds partitions 0 to 7 and keys -31 to -24 and 0. */
 static void prepare(const struct workload *w)
@@ -123,7 +139,8 @@ static void prepare(const struct workload *w)
         kept[9 + i] = 255 | 1ull << 31;
     }
     for (uint32_t r = 0; r < w->live; r++) {
-        uint64_t row[ROW] = {r / 16, 0, 31, 0, 31, 8, 1, 2, 3, 4, 5, 6, 7, w->order == RISING ? 100 + r : 227 - r};
+        uint64_t row[ROW] = {r / 16, 0, 31, 0, 31, 8, 1, 2, 3, 4, 5, 6, 7, w->order == FALLING ? 227 - r : 100 + r};
+        if (w->order == NAMES && r + 1 == w->live) prepare_names(row);
         memcpy(kept + 17 + ROW * r, row, sizeof row);
     }
 }

@@ -1,8 +1,9 @@
 /* A logger in small: a digitiser, the pickers of two groups and the telemetry share one space and don't trust one another.
    It needs space.h and stdio alone, and prints the same on the desk and on a board.
 
-   Whoever puts an entry chooses a partition and a key under which it is read, and a pair under which it is taken. To find it one
-   names the partition and the co-key, and nobody can name what it doesn't hold. So all depends on who holds what:
+   Whoever puts an entry chooses a partition and a key under which it is read (looked at or received), and a pair under which it is
+   taken. To find it one names the partition and the co-key, and nobody can name what it doesn't hold. So all depends on who holds
+   what:
 
      partition 1    triggers            the digitiser holds the keys 7 and -7, the pickers hold -7
      partition 2    settings            the telemetry holds 9 and -9, all others hold -9
@@ -25,8 +26,8 @@ enum { TRIGGER = 1, PICK, GAIN, NOTE, NAMES };
 
 /* What a program asks of the host. There is no party in it: the host knows who is asking. */
 struct request {
-    enum { PUT, READ, TAKE } call;
-    struct pair read, take; /* a put has both, a read and a take the one of its name */
+    enum { PUT, LOOK, RECEIVE, TAKE } call;
+    struct pair read, take; /* a put has both, a look and a receive the first, a take the second */
     uint64_t fields[FIELDS], found[FIELDS];
 };
 
@@ -42,8 +43,10 @@ static uint32_t serve(uint32_t party, struct request *r)
     switch (r->call) {
     case PUT:
         return space_put(space, SPACE_WORDS, party, r->read.partition, r->read.key, r->take.partition, r->take.key, r->fields, FIELDS);
-    case READ:
-        return space_read(space, SPACE_WORDS, party, r->read.partition, r->read.key, r->fields, FIELDS, r->found, FIELDS);
+    case LOOK:
+        return space_look(space, SPACE_WORDS, party, r->read.partition, r->read.key, r->fields, FIELDS, r->found, FIELDS);
+    case RECEIVE:
+        return space_receive(space, SPACE_WORDS, party, r->read.partition, r->read.key, r->fields, FIELDS, r->found, FIELDS);
     default:
         return space_take(space, SPACE_WORDS, party, r->take.partition, r->take.key, r->fields, FIELDS, r->found, FIELDS);
     }
@@ -98,9 +101,15 @@ static struct request to_put(struct pair read, struct pair take, uint32_t what, 
     return (struct request){.call = PUT, .read = read, .take = take, .fields = {space_message(what), a, b}};
 }
 
-static struct request to_read(struct pair pair, uint32_t what, uint64_t a, uint64_t b)
+/* Where the fields alone are wanted, a program looks. It receives where it wants the names in them: they are its own for good. */
+static struct request to_look(struct pair pair, uint32_t what, uint64_t a, uint64_t b)
 {
-    return (struct request){.call = READ, .read = pair, .fields = {space_message(what), a, b}};
+    return (struct request){.call = LOOK, .read = pair, .fields = {space_message(what), a, b}};
+}
+
+static struct request to_receive(struct pair pair, uint32_t what, uint64_t a, uint64_t b)
+{
+    return (struct request){.call = RECEIVE, .read = pair, .fields = {space_message(what), a, b}};
 }
 
 static struct request to_take(struct pair pair, uint32_t what, uint64_t a, uint64_t b)
@@ -138,9 +147,9 @@ static struct request step(const struct program *p, const char *what, struct req
 static void a_trigger(void)
 {
     step(&digitiser, "puts trigger 1, 4000 samples", to_put(triggers, co(triggers), TRIGGER, space_message(1), space_message(4000)), DONE);
-    /* a read finds the oldest match each time, so a picker names the trigger that it hasn't seen yet */
-    step(&picker_a, "reads trigger 1", to_read(co(triggers), TRIGGER, space_message(1), ANY), FOUND);
-    step(&picker_b, "reads trigger 1", to_read(co(triggers), TRIGGER, space_message(1), ANY), FOUND);
+    /* a look finds the oldest match each time, so a picker names the trigger that it hasn't seen yet */
+    step(&picker_a, "looks at trigger 1", to_look(co(triggers), TRIGGER, space_message(1), ANY), FOUND);
+    step(&picker_b, "looks at trigger 1", to_look(co(triggers), TRIGGER, space_message(1), ANY), FOUND);
     step(&picker_b, "tries to put a trigger", to_put(triggers, co(triggers), TRIGGER, space_message(2), space_message(9)), 107);
     step(&picker_b, "tries to take trigger 1", to_take(triggers, TRIGGER, space_message(1), ANY), 107);
     step(&picker_b, "tries it with a key that it holds", to_take(co(triggers), TRIGGER, space_message(1), ANY), NONE);
@@ -158,28 +167,28 @@ static void triggers_after(void)
     step(&digitiser, "puts trigger 3, 7000 samples", to_put(triggers, co(triggers), TRIGGER, space_message(3), space_message(7000)), DONE);
     step(&digitiser, "puts trigger 4, 12000 samples", to_put(triggers, co(triggers), TRIGGER, space_message(4), space_message(12000)), DONE);
     for (int i = 0; i < 2; i++) {
-        struct request asked = to_read(co(triggers), TRIGGER, space_at_least(next), space_at_least(8000));
-        struct request got = step(&picker_a, "reads the next of at least 8000 samples", asked, FOUND);
+        struct request asked = to_look(co(triggers), TRIGGER, space_at_least(next), space_at_least(8000));
+        struct request got = step(&picker_a, "looks for the next of at least 8000 samples", asked, FOUND);
         next = (uint64_t)space_value(got.found[1]) + 1;
     }
-    step(&picker_a, "reads the next", to_read(co(triggers), TRIGGER, space_at_least(next), space_at_least(8000)), NONE);
-    step(&picker_b, "reads the oldest of them", to_read(co(triggers), TRIGGER, ANY, space_at_least(8000)), FOUND);
+    step(&picker_a, "looks for the next", to_look(co(triggers), TRIGGER, space_at_least(next), space_at_least(8000)), NONE);
+    step(&picker_b, "looks for the oldest of them", to_look(co(triggers), TRIGGER, ANY, space_at_least(8000)), FOUND);
     while (digitiser.door(&down) == FOUND) taken++;
     printf("digitiser  takes the triggers up to number 3 down: %d\n", taken);
-    step(&picker_b, "reads the oldest of them", to_read(co(triggers), TRIGGER, ANY, space_at_least(8000)), FOUND);
+    step(&picker_b, "looks for the oldest of them", to_look(co(triggers), TRIGGER, ANY, space_at_least(8000)), FOUND);
     step(&digitiser, "takes trigger 4 down", to_take(triggers, TRIGGER, space_message(4), ANY), FOUND);
     surprises += taken != 2;
 }
 
-/* A pick is read by its own group and taken by the telemetry. A neighbour holds no key of the group, so it can neither see the
+/* A pick is looked at by its own group and taken by the telemetry. A neighbour holds no key of the group, so it can neither see the
    picks nor thin them out. */
 static void picks(void)
 {
     step(&picker_a, "picks sample 1200 of trigger 1", to_put(picks_of_a, from_a, PICK, space_message(1), space_message(1200)), DONE);
     step(&picker_a, "picks sample 1340 of trigger 1", to_put(picks_of_a, from_a, PICK, space_message(1), space_message(1340)), DONE);
     step(&picker_b, "picks sample 1210 of trigger 1", to_put(picks_of_b, from_b, PICK, space_message(1), space_message(1210)), DONE);
-    step(&picker_a, "reads its group's oldest pick", to_read(co(picks_of_a), PICK, ANY, ANY), FOUND);
-    step(&picker_b, "tries to read a pick of group A", to_read(co(picks_of_a), PICK, ANY, ANY), 107);
+    step(&picker_a, "looks at its group's oldest pick", to_look(co(picks_of_a), PICK, ANY, ANY), FOUND);
+    step(&picker_b, "tries to look at a pick of group A", to_look(co(picks_of_a), PICK, ANY, ANY), 107);
     step(&picker_b, "tries to take a pick of group A", to_take(co(from_a), PICK, ANY, ANY), 107);
     step(&telemetry, "takes a pick of group A", to_take(co(from_a), PICK, ANY, ANY), FOUND);
     step(&telemetry, "takes a pick of group A", to_take(co(from_a), PICK, ANY, ANY), FOUND);
@@ -187,33 +196,39 @@ static void picks(void)
     step(&telemetry, "takes a pick of group B", to_take(co(from_b), PICK, ANY, ANY), FOUND);
 }
 
-/* All hold -9 and read the setting; 9 is its owner's. To change it, first put the new one, then take the old one by its value.
-   Readers get the oldest, so they go over from the old one to the new one and never find none. (It takes room for one entry more.) */
+/* All hold -9 and look at the setting; 9 is its owner's. To change it, first put the new one, then take the old one by its value.
+   Whoever looks finds the oldest, so all go over from the old one to the new one and never find none. (It takes room for one entry
+   more.) */
 static void a_setting(void)
 {
     step(&telemetry, "sets the gain of channel 1 to 20", to_put(settings, co(settings), GAIN, space_message(1), space_message(20)), DONE);
-    step(&picker_b, "reads the gain", to_read(co(settings), GAIN, space_message(1), ANY), FOUND);
+    step(&picker_b, "looks at the gain", to_look(co(settings), GAIN, space_message(1), ANY), FOUND);
     step(&picker_b, "tries to set it to 99", to_put(settings, co(settings), GAIN, space_message(1), space_message(99)), 107);
     step(&picker_b, "tries to take it away", to_take(co(settings), GAIN, space_message(1), ANY), NONE);
     step(&telemetry, "puts the new gain, 40", to_put(settings, co(settings), GAIN, space_message(1), space_message(40)), DONE);
-    step(&digitiser, "reads the gain", to_read(co(settings), GAIN, space_message(1), ANY), FOUND);
+    step(&digitiser, "looks at the gain", to_look(co(settings), GAIN, space_message(1), ANY), FOUND);
     step(&telemetry, "takes the old gain, 20", to_take(settings, GAIN, space_message(1), space_message(20)), FOUND);
-    step(&digitiser, "reads the gain", to_read(co(settings), GAIN, space_message(1), ANY), FOUND);
+    step(&digitiser, "looks at the gain", to_look(co(settings), GAIN, space_message(1), ANY), FOUND);
 }
 
-/* Names travel in fields. Picker A lets the telemetry read its notes: it puts their partition and co-key under a pair that the
-   telemetry alone finds. Whoever finds names holds them from then on, and nothing takes them back. */
+/* Names travel in fields. Picker A lets the telemetry look at its notes: it puts their partition and co-key under a pair that the
+   telemetry alone finds. A look at them gives nothing. Whoever receives names, or takes them, holds them from then on, and nothing
+   takes them back. */
 static void names(void)
 {
     step(&picker_a, "notes that battery 3 has 12 volts", to_put(notes, co(notes), NOTE, space_message(3), space_message(12)), DONE);
-    step(&telemetry, "tries to read the note", to_read(co(notes), NOTE, ANY, ANY), 107);
+    step(&telemetry, "tries to look at the note", to_look(co(notes), NOTE, ANY, ANY), 107);
     step(&picker_a, "hands over the names", to_put(from_a, from_a, NAMES, space_partition(notes.partition), space_key(-notes.key)), DONE);
     step(&picker_b, "tries to take them", to_take(co(from_a), NAMES, ANY, ANY), 107);
-    struct request got = step(&telemetry, "takes them", to_take(co(from_a), NAMES, ANY, ANY), FOUND);
-    /* two numbers would have given it no names, so it looks at the kinds */
-    surprises += space_kind(got.found[1]) != SPACE_KIND_PARTITION || space_kind(got.found[2]) != SPACE_KIND_KEY;
-    struct pair given = {(uint32_t)space_value(got.found[1]), (int32_t)space_value(got.found[2])};
-    step(&telemetry, "reads the note", to_read(given, NOTE, ANY, ANY), FOUND);
+    struct request seen = step(&telemetry, "looks at them", to_look(co(from_a), NAMES, ANY, ANY), FOUND);
+    /* two numbers would give it no names, so it looks at the kinds */
+    surprises += space_kind(seen.found[1]) != SPACE_KIND_PARTITION || space_kind(seen.found[2]) != SPACE_KIND_KEY;
+    struct pair given = {(uint32_t)space_value(seen.found[1]), (int32_t)space_value(seen.found[2])};
+    step(&telemetry, "tries to look at the note", to_look(given, NOTE, ANY, ANY), 107);
+    step(&telemetry, "receives them", to_receive(co(from_a), NAMES, ANY, ANY), FOUND);
+    step(&telemetry, "looks at the note", to_look(given, NOTE, ANY, ANY), FOUND);
+    /* until they are taken, they count among the 16 entries of picker A */
+    step(&telemetry, "takes them down", to_take(co(from_a), NAMES, ANY, ANY), FOUND);
     step(&telemetry, "tries to put a note", to_put(notes, co(notes), NOTE, space_message(3), space_message(0)), 107);
 }
 

@@ -1,4 +1,5 @@
-/* The five calls of the rules' example, made from C: a program includes the header and links the archive. */
+/* The five calls of the rules' example, made from C: a program includes the header and links the archive. Last a look,
+   which gives no names; that prints nothing, the status tells it. */
 #include "space.h"
 #include <stdio.h>
 
@@ -17,6 +18,18 @@ static void show(int number, uint32_t answer, int is_put, const uint64_t *result
     }
 }
 
+/* Party 0 puts its key 4 into a field. Party 1 looks at it and still can't put under key 4; once it has received it, it can. */
+static int a_look_gives_no_names(void)
+{
+    const uint64_t key[1] = {space_key(4)}, any[1] = {SPACE_WILDCARD};
+    uint64_t result[SPACE_MOST_FIELDS];
+    return space_put(space, SPACE_WORDS, 0, 5, 4, 5, 4, key, 1) == 0
+        && space_look(space, SPACE_WORDS, 1, 5, -4, any, 1, result, SPACE_MOST_FIELDS) == 1 && result[0] == key[0]
+        && space_put(space, SPACE_WORDS, 1, 5, 4, 5, 4, key, 1) == 107
+        && space_receive(space, SPACE_WORDS, 1, 5, -4, any, 1, result, SPACE_MOST_FIELDS) == 1
+        && space_put(space, SPACE_WORDS, 1, 5, 4, 5, 4, key, 1) == 0;
+}
+
 int main(void)
 {
     const uint64_t entry[2] = {space_message(7), space_message(120)};
@@ -31,9 +44,9 @@ int main(void)
 
     printf("open %u\n", (unsigned)space_open(space, SPACE_WORDS, roster, SPACE_ROSTER_WORDS));
     show(1, space_put(space, SPACE_WORDS, 0, 5, 4, 5, 4, entry, 2), 1, result);
-    show(2, space_read(space, SPACE_WORDS, 1, 5, -4, first, 2, result, SPACE_MOST_FIELDS), 0, result);
+    show(2, space_receive(space, SPACE_WORDS, 1, 5, -4, first, 2, result, SPACE_MOST_FIELDS), 0, result);
     show(3, space_take(space, SPACE_WORDS, 0, 5, -4, any, 2, result, SPACE_MOST_FIELDS), 0, result);
     show(4, space_take(space, SPACE_WORDS, 1, 5, -4, any, 2, result, SPACE_MOST_FIELDS), 0, result);
-    show(5, space_read(space, SPACE_WORDS, 1, 5, -4, any, 2, result, SPACE_MOST_FIELDS), 0, result);
-    return 0;
+    show(5, space_receive(space, SPACE_WORDS, 1, 5, -4, any, 2, result, SPACE_MOST_FIELDS), 0, result);
+    return !a_look_gives_no_names();
 }

@@ -4,7 +4,7 @@
 #include "random.h"
 #include "words.h"
 
-enum kind { OPEN, PUT, READ, TAKE, KINDS };
+enum kind { OPEN, PUT, LOOK, RECEIVE, TAKE, KINDS };
 
 struct call {
     enum kind kind;
@@ -14,10 +14,10 @@ struct call {
     uint64_t list[18]; /* the roster, or the fields */
 };
 
-/* what is given to each party: all of the few partitions and keys that the calls name, but for parties 6 and 7 */
+/* what is given to each party: all of the few partitions and keys that the calls name, but for parties 5 to 7, which lack some */
 #define KEYS_3_TO_2 (63ull << 28) /* keys -3 to 2 */
-static const uint64_t usual_roster[ROSTER] = {7, 7, 7, 7, 7, 7, 7, 3, KEYS_3_TO_2, KEYS_3_TO_2, KEYS_3_TO_2, KEYS_3_TO_2, KEYS_3_TO_2,
-                                              KEYS_3_TO_2, 7ull << 30, 3ull << 30};
+static const uint64_t usual_roster[ROSTER] = {7, 7, 7, 7, 7, 3, 5, 1, KEYS_3_TO_2, KEYS_3_TO_2, KEYS_3_TO_2, KEYS_3_TO_2, KEYS_3_TO_2,
+                                              7ull << 30, 7ull << 29, 1ull << 31};
 
 /* The order of evaluation is left open within an expression of C, so no expression here has two numbers whose order matters. */
 
@@ -52,17 +52,23 @@ static inline uint64_t a_field(int in_template)
     return at < 940 ? PARTITION_FIELD + below(4) : KEY_FIELD + 28 + below(6);
 }
 
+/* where in a row the pair is that a look, a receive or a take goes by */
+static inline uint32_t pair_of(const struct call *c) { return c->kind == TAKE ? TAKE_PARTITION : READ_PARTITION; }
+
+/* one of the three, a take every second time */
+static inline enum kind a_seek(void) { return seldom(2) ? TAKE : seldom(2) ? LOOK : RECEIVE; }
+
 /* A template that a live row matches, now and then with a wildcard for a field, or with a bound, by which it may just fail. */
 static inline void a_match(struct call *c, const uint64_t *space)
 {
     const uint64_t *row = space + row_at(below((uint32_t)space[0]));
-    uint32_t pair = c->kind == READ ? READ_PARTITION : TAKE_PARTITION;
+    uint32_t pair = pair_of(c);
     c->partition[0] = (uint32_t)row[pair];
     c->key[0] = 31 - (int32_t)row[pair + 1];
     c->count = row[COUNT];
     for (uint32_t i = 0; i < MOST_FIELDS; i++) {
-        uint32_t at = below(9);
-        c->list[i] = at < 5 ? row[FIELDS + i] : at < 8 ? WILDCARD : a_bound((uint32_t)row[FIELDS + i]);
+        uint32_t at = below(9), exact = row[FIELDS + i] >> 32 ? 1 : 5; /* names seldom: who lacks one is refused */
+        c->list[i] = at < exact ? row[FIELDS + i] : at < 8 ? WILDCARD : a_bound((uint32_t)row[FIELDS + i]);
     }
 }
 
@@ -93,7 +99,7 @@ static inline void a_call(struct call *c, const uint64_t *space, uint32_t percen
 {
     uint32_t at = below(1000);
     int some_rows = space[0] - 1 < ROWS;
-    c->kind = at < 5 ? OPEN : at < 10 * percent_puts ? PUT : seldom(2) ? READ : TAKE;
+    c->kind = at < 5 ? OPEN : at < 10 * percent_puts ? PUT : a_seek();
     c->party = seldom(200) ? (uint32_t)any64() : below(PARTIES);
     for (uint32_t i = 0; i < 2; i++) {
         c->partition[i] = seldom(300) ? (seldom(2) ? 60 + below(8) : (uint32_t)any64()) : below(3);

@@ -1,6 +1,7 @@
 /* The proved library against plain C, call by call, on the machine that this runs on: the answer, every word of space and result,
-   what was lent to be read, and guard words around all of it. Prints how often each answer was seen and a hash of the whole
-   sequence, which is the same on every machine. Ends with status 1 where the two differ, or where something was never tried. */
+   what was lent to be read, and guard words around all of it. By itself it is seen that a look leaves every word of the space, and
+   that whoever receives or takes a name holds it. Prints how often each answer was seen and a hash of the whole sequence, which is
+   the same on every machine. Ends with status 1 where the two differ, or where something was never tried. */
 #include "calls.h"
 #include "plain.h"
 #include "space.h"
@@ -19,12 +20,15 @@ static struct lent proved, plain;
 
 static uint64_t guard(uint32_t at) { return 0x6A09E667F3BCC909u + at; }
 
+typedef uint32_t look_call(const uint64_t *, uint64_t, uint32_t, uint32_t, int32_t, const uint64_t *, uint64_t, uint64_t *, uint64_t);
 typedef uint32_t seek_call(uint64_t *, uint64_t, uint32_t, uint32_t, int32_t, const uint64_t *, uint64_t, uint64_t *, uint64_t);
 static const struct side {
     uint32_t (*open)(uint64_t *, uint64_t, const uint64_t *, uint64_t);
     uint32_t (*put)(uint64_t *, uint64_t, uint32_t, uint32_t, int32_t, uint32_t, int32_t, const uint64_t *, uint64_t);
-    seek_call *read, *take;
-} library = {space_open, space_put, space_read, space_take}, by_hand = {plain_open, plain_put, plain_read, plain_take};
+    look_call *look;
+    seek_call *receive, *take;
+} library = {space_open, space_put, space_look, space_receive, space_take},
+  by_hand = {plain_open, plain_put, plain_look, plain_receive, plain_take};
 
 static uint32_t make(const struct side *by, struct lent *on, const struct call *c)
 {
@@ -32,8 +36,9 @@ static uint32_t make(const struct side *by, struct lent *on, const struct call *
     if (c->kind == OPEN) return by->open(s, c->space_len, c->list, c->count);
     if (c->kind == PUT)
         return by->put(s, c->space_len, c->party, c->partition[0], c->key[0], c->partition[1], c->key[1], c->list, c->count);
-    return (c->kind == READ ? by->read : by->take)(s, c->space_len, c->party, c->partition[0], c->key[0], c->list, c->count,
-                                                   on->result, c->room);
+    if (c->kind == LOOK) return by->look(s, c->space_len, c->party, c->partition[0], c->key[0], c->list, c->count, on->result, c->room);
+    return (c->kind == RECEIVE ? by->receive : by->take)(s, c->space_len, c->party, c->partition[0], c->key[0], c->list, c->count,
+                                                         on->result, c->room);
 }
 
 /* Bits of the space turned over, by the clause of soundness that this should break; 0 where the space has no place for that. */
@@ -62,6 +67,8 @@ static int damage(uint32_t clause, const uint64_t *space, uint32_t *word, uint64
 
 static uint32_t answers[KINDS][ANSWERS], damaged[CLAUSES], long_space, long_roster, long_fields, long_result, bound_63, most_rows;
 static uint64_t hash = 0xcbf29ce484222325u;
+static uint64_t earlier[WORDS]; /* the library's space before a look, receive or take */
+static uint32_t lacked[KINDS];  /* found with a name that the party did not hold */
 
 /* What the bounds met with, each counted for itself: in a put that was refused by 105, or in a template that was not refused. */
 enum { NONE, FOUND, ITS_NUMBER, BY_0, BY_THE_LARGEST, A_PARTITION, A_KEY, IN_A_PUT, MEETINGS };
@@ -73,7 +80,7 @@ static void hash_in(uint64_t word) { hash = (hash ^ word) * 0x100000001b3u; }
    row that was taken had none. */
 static int meets(const struct call *c, uint32_t place, uint32_t kind)
 {
-    uint32_t pair = c->kind == READ ? READ_PARTITION : TAKE_PARTITION, bound = (uint32_t)c->list[place];
+    uint32_t pair = pair_of(c), bound = (uint32_t)c->list[place];
     for (uint32_t r = 0; r < proved.space[0]; r++) {
         const uint64_t *row = proved.space + row_at(r);
         uint32_t number = (uint32_t)row[FIELDS + place];
@@ -100,10 +107,19 @@ static void count_bounds(const struct call *c, uint32_t answer)
     }
 }
 
+/* Of the fields that a call found: how many carry a name that its party lacks, by these holdings? */
+static uint32_t lacking(const struct call *c, uint32_t answer, const uint64_t *space)
+{
+    uint32_t names = 0;
+    for (uint32_t i = 0; c->kind > PUT && answer <= MOST_FIELDS && i < answer; i++) names += lacks(space, c->party, proved.result[i]);
+    return names;
+}
+
 static void count(const struct call *c, uint32_t answer)
 {
     answers[c->kind][answer]++;
     count_bounds(c, answer);
+    lacked[c->kind] += lacking(c, answer, earlier) > 0;
     if (c->space_len >> 32) long_space++;
     else if (c->count >> 32) *(c->kind == OPEN ? &long_roster : &long_fields) += answer == (c->kind == OPEN ? 109 : 103);
     else if (c->kind > PUT && c->room >> 32) long_result += answer - 1 < MOST_FIELDS;
@@ -120,6 +136,9 @@ static const char *difference(uint32_t by_library, uint32_t by_c, const struct c
     if (by_library != by_c || by_library >= ANSWERS) return "answer";
     for (uint32_t i = 0; i < LENT; i++)
         if (a[i] != b[i]) return "words";
+    for (uint32_t i = 0; now->kind == LOOK && i < WORDS; i++)
+        if (proved.space[i] != earlier[i]) return "space after a look";
+    if (now->kind > LOOK && lacking(now, by_library, proved.space)) return "names";
     for (uint32_t i = 0; i < GUARDS; i++)
         if (proved.before[i] != guard(i) || proved.between[i] != guard(GUARDS + i) || proved.after[i] != guard(2 * GUARDS + i)) return "guards";
     for (uint32_t i = 0; i < 18; i++)
@@ -130,6 +149,7 @@ static const char *difference(uint32_t by_library, uint32_t by_c, const struct c
 static uint32_t one_call(const struct call *c, uint32_t number)
 {
     struct call kept = *c;
+    for (uint32_t i = 0; c->kind > PUT && i < WORDS; i++) earlier[i] = proved.space[i];
     uint32_t a = make(&library, &proved, c), b = make(&by_hand, &plain, c);
     const char *what = difference(a, b, c, &kept);
     if (what) {
@@ -182,7 +202,7 @@ static int tried(const char *what, uint32_t times)
 
 static int all_tried(void)
 {
-    static const char *const names[] = {"open", "put", "read", "take"}, *const bounds[] = {"at least", "at most"};
+    static const char *const names[] = {"open", "put", "look", "receive", "take"}, *const bounds[] = {"at least", "at most"};
     static const char *const meetings[] = {"none", "found", "found, its own number", "0, found", "4294967295, found",
                                            "met with a partition", "met with a key", "refused in a put"};
     int ok = 1;
@@ -195,6 +215,9 @@ static int all_tried(void)
             if (a == 0 || found || refusal) ok &= tried(what, answers[kind][a]);
             else if (answers[kind][a]) ok = 0, printf("FAILED: %s %u\n", what, (unsigned)answers[kind][a]);
         }
+    ok &= tried("look found a name that the party lacked and goes on lacking:", lacked[LOOK]);
+    ok &= tried("receive gave it:", lacked[RECEIVE]);
+    ok &= tried("take gave it:", lacked[TAKE]);
     for (uint32_t clause = FIRST_CLAUSE; clause < CLAUSES; clause++) {
         char what[48];
         if (clause < BY_AT_LEAST) snprintf(what, sizeof what, "damage refused, S%u:", (unsigned)clause);

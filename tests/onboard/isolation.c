@@ -13,7 +13,8 @@ enum { STEPS = 90, MOST_OTHERS = 4 };
 static uint64_t space[2][WORDS];
 static uint32_t group;                      /* a bit for each member */
 static uint64_t partitions, keys;           /* G4: the group's names */
-static uint32_t compared, found, others_done, others_found, entries, names_gained;
+static uint32_t compared, others_done, entries;
+static uint32_t found[KINDS], others_found[KINDS], lacked[KINDS]; /* lacked: the group found a name that the member didn't hold */
 static uint32_t found_by_bounds, others_found_by_bounds; /* templates with a bound */
 
 static int member(uint32_t party) { return party < PARTIES && group >> party & 1; }
@@ -23,7 +24,7 @@ static int reached(uint32_t partition, int32_t key) { return partitions >> parti
 
 static int in_grasp(const struct call *c)
 {
-    if (c->kind == READ) return 0;
+    if (c->kind == LOOK || c->kind == RECEIVE) return 0; /* G7: these are free */
     return reached(c->partition[0], c->key[0]) || (c->kind == PUT && reached(c->partition[1], c->key[1]));
 }
 
@@ -56,7 +57,8 @@ static uint32_t make(uint32_t run, const struct call *c, uint64_t *result)
     uint64_t *s = space[run];
     switch (c->kind) {
     case PUT: return space_put(s, WORDS, c->party, c->partition[0], c->key[0], c->partition[1], c->key[1], c->list, c->count);
-    case READ: return space_read(s, WORDS, c->party, c->partition[0], c->key[0], c->list, c->count, result, c->room);
+    case LOOK: return space_look(s, WORDS, c->party, c->partition[0], c->key[0], c->list, c->count, result, c->room);
+    case RECEIVE: return space_receive(s, WORDS, c->party, c->partition[0], c->key[0], c->list, c->count, result, c->room);
     default: return space_take(s, WORDS, c->party, c->partition[0], c->key[0], c->list, c->count, result, c->room);
     }
 }
@@ -64,7 +66,7 @@ static uint32_t make(uint32_t run, const struct call *c, uint64_t *result)
 /* A call that names some of the first partitions, and keys from -most to most; a template has mostly wildcards and bounds. */
 static void a_run_call(struct call *c, uint32_t first, int32_t most)
 {
-    c->kind = seldom(2) ? PUT : seldom(2) ? READ : TAKE;
+    c->kind = seldom(2) ? PUT : a_seek();
     for (uint32_t i = 0; i < 2; i++) {
         c->partition[i] = below(first);
         c->key[i] = (int32_t)below(2 * (uint32_t)most + 1) - most;
@@ -104,16 +106,17 @@ static void other_call(uint32_t run)
     if (in_grasp(&c)) c.count = seldom(2) ? 0 : 9;
     uint32_t answer = make(run, &c, result);
     if (c.kind == PUT) others_done += answer == 0;
-    else if (answer - 1 < MOST_FIELDS) others_found++, others_found_by_bounds += has_bound(&c);
+    else if (answer - 1 < MOST_FIELDS) others_found[c.kind]++, others_found_by_bounds += has_bound(&c);
 }
 
 static int group_call(void)
 {
     struct call c;
-    uint64_t result[2][MOST_FIELDS];
-    uint32_t answer[2];
+    uint64_t result[2][MOST_FIELDS], had[ROWS_AT];
+    uint32_t answer[2], lacking = 0;
     a_run_call(&c, 4, 3);
     c.party = a_party(1);
+    for (uint32_t i = 0; i < ROWS_AT; i++) had[i] = space[0][i];
     for (uint32_t run = 0; run < 2; run++) {
         for (uint32_t i = 0; i < MOST_FIELDS; i++) result[run][i] = any64();
         answer[run] = make(run, &c, result[run]);
@@ -121,11 +124,12 @@ static int group_call(void)
     compared++;
     if (answer[0] != answer[1]) return 0;
     if (c.kind == PUT || answer[0] - 1 >= MOST_FIELDS) return 1;
-    found++, found_by_bounds += has_bound(&c);
+    found[c.kind]++, found_by_bounds += has_bound(&c);
     for (uint32_t i = 0; i < answer[0]; i++) {
         if (result[0][i] != result[1][i]) return 0;
-        names_gained += result[0][i] >> 32 != 0;
+        lacking += lacks(had, c.party, result[0][i]);
     }
+    lacked[c.kind] += lacking > 0;
     return 1;
 }
 
@@ -156,6 +160,13 @@ static int same_after(void)
     return 1;
 }
 
+/* Prints how often each kind of call found something. Is no count 0? */
+static int tried(const char *what, const uint32_t *times)
+{
+    printf("%s by looks %u, by receives %u, by takes %u\n", what, (unsigned)times[LOOK], (unsigned)times[RECEIVE], (unsigned)times[TAKE]);
+    return times[LOOK] && times[RECEIVE] && times[TAKE];
+}
+
 int main(void)
 {
     seed = 7;
@@ -170,11 +181,13 @@ int main(void)
             }
         }
     }
-    printf("group calls compared %u, of them found %u, with names gained %u, entries compared %u\n", (unsigned)compared,
-           (unsigned)found, (unsigned)names_gained, (unsigned)entries);
-    printf("others' puts done %u, others' entries found %u\n", (unsigned)others_done, (unsigned)others_found);
+    printf("group calls compared %u, entries compared %u, others' puts done %u\n", (unsigned)compared, (unsigned)entries,
+           (unsigned)others_done);
+    int all = tried("found by the group:", found);
+    all &= tried("a name that the member lacked:", lacked);
+    all &= tried("found by others:", others_found);
     printf("found by templates with bounds: by the group %u, by others %u\n", (unsigned)found_by_bounds, (unsigned)others_found_by_bounds);
-    if (!compared || !found || !names_gained || !entries || !others_done || !others_found || !found_by_bounds || !others_found_by_bounds)
+    if (!all || !compared || !entries || !others_done || !found_by_bounds || !others_found_by_bounds)
         return printf("FAILED: a count is 0\n"), 1;
     printf("%u pairs of runs alike\n", (unsigned)PAIRS);
     return 0;

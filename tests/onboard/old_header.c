@@ -10,7 +10,10 @@
 
 uint32_t old_open(uint64_t *, size_t, const uint64_t *, size_t) __asm__("space_open");
 uint32_t old_put(uint64_t *, size_t, uint32_t, uint32_t, int32_t, uint32_t, int32_t, const uint64_t *, size_t) __asm__("space_put");
-uint32_t old_read(uint64_t *, size_t, uint32_t, uint32_t, int32_t, const uint64_t *, size_t, uint64_t *, size_t) __asm__("space_read");
+uint32_t old_look(const uint64_t *, size_t, uint32_t, uint32_t, int32_t, const uint64_t *, size_t, uint64_t *, size_t)
+    __asm__("space_look");
+uint32_t old_receive(uint64_t *, size_t, uint32_t, uint32_t, int32_t, const uint64_t *, size_t, uint64_t *, size_t)
+    __asm__("space_receive");
 uint32_t old_take(uint64_t *, size_t, uint32_t, uint32_t, int32_t, const uint64_t *, size_t, uint64_t *, size_t) __asm__("space_take");
 uint32_t old_read_roster(const uint8_t *, size_t, uint64_t *, size_t) __asm__("space_read_roster");
 
@@ -27,10 +30,11 @@ int main(void)
     if (space_open(space, WORDS, roster, ROSTER) || space_put(space, WORDS, 0, 0, 0, 0, 0, entry, 1)) return 1;
     for (uint32_t i = 0; i < WORDS; i++) before[i] = space[i];
     for (uint32_t party = 0; party < 10; party++)
-        for (uint32_t partition = 0; partition < 65; partition += 8, calls += 4) {
+        for (uint32_t partition = 0; partition < 65; partition += 8, calls += 5) {
             refused += old_open(space, WORDS, roster, ROSTER) == 101;
             refused += old_put(space, WORDS, party, partition, 0, partition, 0, entry, 1) == 101;
-            refused += old_read(space, WORDS, party, partition, 0, any, 1, result, MOST_FIELDS) == 101;
+            refused += old_look(space, WORDS, party, partition, 0, any, 1, result, MOST_FIELDS) == 101;
+            refused += old_receive(space, WORDS, party, partition, 0, any, 1, result, MOST_FIELDS) == 101;
             refused += old_take(space, WORDS, party, partition, 0, any, 1, result, MOST_FIELDS) == 101;
         }
     for (uint32_t i = 0; i < WORDS; i++)

@@ -15,4 +15,11 @@ enum { WRITER, READ_PARTITION, READ_KEY, TAKE_PARTITION, TAKE_KEY, COUNT, FIELDS
 
 static inline uint32_t row_at(uint32_t row) { return ROWS_AT + ROW * row; }
 static inline int is_bound(uint64_t field) { return field >> 32 == 4 || field >> 32 == 5; }
+
+/* Does an entry's field carry a name that the party doesn't hold? */
+static inline int lacks(const uint64_t *space, uint32_t party, uint64_t field)
+{
+    uint64_t held = space[(field >> 32 == 1 ? PARTITIONS_AT : KEYS_AT) + party];
+    return field >> 32 > 0 && !(held >> (uint32_t)field & 1);
+}
 #endif

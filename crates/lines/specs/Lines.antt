@@ -6,7 +6,7 @@ use Prim.Native.Nat.{ℕ, zero, suc}
 use lib.Dec.{eqb, leb}
 use lib.IntN.{ℤ}
 use Rattle.rules.specs.Names.{keyInRange, stored}
-use Rattle.rules.specs.Matching.{Pair, pair, Op, reading, taking}
+use Rattle.rules.specs.Matching.{Pair, pair, Op, looking, receiving, taking}
 use Rattle.rules.specs.Calls.{Call, put, seek}
 use Rattle.rules.specs.Words.{zeros}
 use Rattle.text.specs.Numbers.{unsigned, signed}
@@ -36,9 +36,13 @@ giveWord = 103 ∷ 105 ∷ 118 ∷ 101 ∷ []
 abbrev pub putWord : List ℕ
 putWord = 112 ∷ 117 ∷ 116 ∷ []
 
--- "read"
-abbrev pub readWord : List ℕ
-readWord = 114 ∷ 101 ∷ 97 ∷ 100 ∷ []
+-- "look"
+abbrev pub lookWord : List ℕ
+lookWord = 108 ∷ 111 ∷ 111 ∷ 107 ∷ []
+
+-- "receive"
+abbrev pub receiveWord : List ℕ
+receiveWord = 114 ∷ 101 ∷ 99 ∷ 101 ∷ 105 ∷ 118 ∷ 101 ∷ []
 
 -- "take"
 abbrev pub takeWord : List ℕ
@@ -107,12 +111,22 @@ readSeek op line =
     (seekOf op (unsigned (item 1 line)) (readPair 2 line) (readFields (item 6 line)))
     none
 
+-- T11: the operation that a word names
+abbrev pub opOf : List ℕ → Option Op
+opOf word =
+    cond (same word lookWord) (some looking)
+    (cond (same word receiveWord) (some receiving)
+    (cond (same word takeWord) (some taking)
+    none))
+
+abbrev pub readSeekBy : Option Op → List ℕ → Option Line
+readSeekBy none line = none
+readSeekBy (some op) line = readSeek op line
+
 -- T15, T11: seven items with one blank between, by the first; none where the line is unreadable
 unfoldable pub readLine : List ℕ → Option Line
 readLine line =
     cond (not (eqb (blanks line) 6)) none
     (cond (same (item 0 line) giveWord) (readGive line)
     (cond (same (item 0 line) putWord) (readPut line)
-    (cond (same (item 0 line) readWord) (readSeek reading line)
-    (cond (same (item 0 line) takeWord) (readSeek taking line)
-    none))))
+    (readSeekBy (opOf (item 0 line)) line)))

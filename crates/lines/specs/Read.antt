@@ -6,6 +6,7 @@ use mathlib.Core.Option.{Option, none, some}
 use Prim.Native.Nat.{ℕ, _≤_}
 use lib.IntN.{ℤ}
 use lib.ListN.{take}
+use Rattle.rules.specs.Matching as matching
 use Rattle.rules.specs.Matching.{Pair, pair}
 use Rattle.rules.specs.Calls.{put, seek}
 use Rattle.rules.specs.Calls as calls
@@ -19,6 +20,8 @@ use Rattle.lines.specs.declared.Gift.{Gift}
 use Rattle.lines.specs.declared.Gift.the-variants as gift
 use Rattle.lines.specs.declared.ReadGift.{ReadGift}
 use Rattle.lines.specs.declared.ReadGift.the-variants as read-gift
+use Rattle.lines.specs.declared.ReadOp.{ReadOp}
+use Rattle.lines.specs.declared.ReadOp.the-variants as read-op
 use Rattle.lines.specs.declared.ReadPair.{ReadPair}
 use Rattle.lines.specs.declared.ReadPair.the-variants as read-pair
 use Rattle.lines.specs.declared.Call.{Call}
@@ -38,6 +41,10 @@ abbrev pub meantGift : ReadGift → Option (Option ℕ)
 meantGift read-gift.Unreadable = none
 meantGift (read-gift.Value g) = some (nameOf g)
 
+abbrev pub meantOp : ReadOp → Option matching.Op
+meantOp read-op.Unreadable = none
+meantOp (read-op.Value op) = some (place.meant op)
+
 abbrev pub meantPair : ReadPair → Option (Pair ℤ)
 meantPair read-pair.Unreadable = none
 meantPair (read-pair.Value p k) = some (pair p k)
@@ -47,7 +54,7 @@ abbrev pub meantFields : Fields → List ℕ → Option (List ℕ)
 meantFields fields.Unreadable ws = none
 meantFields (fields.Count n) ws = some (take n ws)
 
--- C2 to C4: the fields of a call are the first n of the words; a read or take is lent eight result words
+-- C2 to C4, C8: the fields of a call are the first n of the words; a look, receive or take is lent eight result words
 abbrev pub meantCall : Call → List ℕ → calls.Call (List ℕ)
 meantCall (call.Put who rp rk tp tk n) ws = put who (pair rp rk) (pair tp tk) (take n ws)
 meantCall (call.Seek op who p k n) ws = seek (place.meant op) who (pair p k) (take n ws) (zeros 8)

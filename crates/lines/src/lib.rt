@@ -16,9 +16,9 @@ ghost use Rattle.text.specs.Fields.{readFields};
 ghost use Rattle.text.specs.Answers.{numberOf, signedOf};
 ghost use Rattle.search.specs.Place as place;
 ghost use Rattle.numbers.specs.Parts.{same};
-ghost use Rattle.lines.specs.Lines.{blanks, item, dash, optional, pairOf, readGive, readPut, readSeek, readLine};
+ghost use Rattle.lines.specs.Lines.{blanks, item, dash, optional, pairOf, readGive, readPut, readSeek, opOf, readLine};
 ghost use Rattle.lines.specs.Parts.{PartIs};
-ghost use Rattle.lines.specs.Read.{noTakePair, meantGift, meantPair, FieldsAre, LineIs};
+ghost use Rattle.lines.specs.Read.{noTakePair, meantGift, meantOp, meantPair, FieldsAre, LineIs};
 
 // A part of a line, from its first byte to the one past its last.
 struct Part {
@@ -37,17 +37,23 @@ enum ReadGift {
     Unreadable,
 }
 
+// T11: the operation that a word names.
+enum ReadOp {
+    Value(Op),
+    Unreadable,
+}
+
 // A partition and a key.
 enum ReadPair {
     Value(u32, i32),
     Unreadable,
 }
 
-// C2 to C4: a call. Its number of fields comes last; their words are the first of those lent.
+// C2 to C4, C8: a call. Its number of fields comes last; their words are the first of those lent.
 pub enum Call {
     // The party, the read pair, the take pair.
     Put(u32, u32, i32, u32, i32, usize),
-    // Read or take, the party, the template's pair.
+    // Look, receive or take, the party, the template's pair.
     Seek(Op, u32, u32, i32, usize),
 }
 
@@ -251,6 +257,22 @@ fn read_seek(op: Op, line: &[u8], words: &mut [u64]) -> Line
     Line::Ask(Call::Seek(op, who, partition, key, n))
 }
 
+// T11
+fn op_in(line: &[u8]) -> ReadOp
+    ensures { λ r. ⌜ meantOp r ≡ opOf (item 0 (now (line .entry))) ⌝ }
+{
+    if item_is(line, 0, b"look") {
+        return ReadOp::Value(Op::Looking);
+    }
+    if item_is(line, 0, b"receive") {
+        return ReadOp::Value(Op::Receiving);
+    }
+    if item_is(line, 0, b"take") {
+        return ReadOp::Value(Op::Taking);
+    }
+    ReadOp::Unreadable
+}
+
 // T15, T11: the fields of a call are read into the words.
 pub fn read_line(line: &[u8], words: &mut [u64]) -> Line
     requires { ⌜ length (now words) ≡ 16 ⌝ }
@@ -265,11 +287,8 @@ pub fn read_line(line: &[u8], words: &mut [u64]) -> Line
     if item_is(line, 0, b"put") {
         return read_put(line, words);
     }
-    if item_is(line, 0, b"read") {
-        return read_seek(Op::Reading, line, words);
-    }
-    if item_is(line, 0, b"take") {
-        return read_seek(Op::Taking, line, words);
-    }
-    Line::Unreadable
+    let ReadOp::Value(op) = op_in(line) else {
+        return Line::Unreadable;
+    };
+    read_seek(op, line, words)
 }

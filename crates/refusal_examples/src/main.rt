@@ -1,5 +1,6 @@
 // Every refusal of every call and of a roster file, and for every two neighbours of the table one that both would turn away.
 // A line says the call, what is wrong with it, its answer, and whether a word of space, result or roster has changed.
+use search::Op;
 use space::Answer;
 
 // Field words with value 0.
@@ -34,8 +35,9 @@ fn main() {
     put_of_others_names(words);
     put_refused_twice(words);
     put_at_the_limit(words);
-    seek_examples(words, false);
-    seek_examples(words, true);
+    seek_examples(words, Op::Looking);
+    seek_examples(words, Op::Receiving);
+    seek_examples(words, Op::Taking);
     file_examples();
     file_refused_twice();
 }
@@ -189,88 +191,88 @@ fn put_five_entries(words: &mut [u64]) {
     space::put(words, 0, 5, 4, 5, 4, &[7]);
 }
 
-// A seek is a read or a take. There is an entry that it would find.
-fn seek_examples(opened: [u64; 1809], taking: bool) {
+// A seek is a look, a receive or a take. There is an entry that it would find.
+fn seek_examples(opened: [u64; 1809], op: Op) {
     let mut words = opened;
     space::put(&mut words, 0, 5, 4, 5, 4, &[7, 120]);
-    seek_of_unsound(words, taking);
-    seek_refused(words, taking);
-    seek_of_bad_fields(words, taking);
-    seek_of_bounds(words, taking);
-    seek_of_others_names(words, taking);
-    seek_refused_twice(words, taking);
-    say_seek(taking, b"nothing wrong");
-    seek(words, taking, 1, 5, -4, &[7, WILDCARD]);
+    seek_of_unsound(words, op);
+    seek_refused(words, op);
+    seek_of_bad_fields(words, op);
+    seek_of_bounds(words, op);
+    seek_of_others_names(words, op);
+    seek_refused_twice(words, op);
+    say_seek(op, b"nothing wrong");
+    seek(words, op, 1, 5, -4, &[7, WILDCARD]);
 }
 
-fn seek_of_unsound(words: [u64; 1809], taking: bool) {
-    say_seek(taking, b"1808 words");
-    seek_1808(words, taking, 1);
-    say_seek(taking, b"129 live entries");
-    seek(with_129_entries(words), taking, 1, 5, -4, &[7, 120]);
-    say_seek(taking, b"1808 words, party 8");
-    seek_1808(words, taking, 8);
+fn seek_of_unsound(words: [u64; 1809], op: Op) {
+    say_seek(op, b"1808 words");
+    seek_1808(words, op, 1);
+    say_seek(op, b"129 live entries");
+    seek(with_129_entries(words), op, 1, 5, -4, &[7, 120]);
+    say_seek(op, b"1808 words, party 8");
+    seek_1808(words, op, 8);
 }
 
-fn seek_refused(words: [u64; 1809], taking: bool) {
-    say_seek(taking, b"party 8");
-    seek(words, taking, 8, 5, -4, &[7, 120]);
-    say_seek(taking, b"no field");
-    seek(words, taking, 1, 5, -4, &[]);
-    say_seek(taking, b"9 fields");
-    seek(words, taking, 1, 5, -4, &[7; 9]);
-    say_seek(taking, b"partition 64");
-    seek(words, taking, 1, 64, -4, &[7, 120]);
-    say_seek(taking, b"key 32");
-    seek(words, taking, 1, 5, 32, &[7, 120]);
-    say_seek(taking, b"key -32");
-    seek(words, taking, 1, 5, -32, &[7, 120]);
+fn seek_refused(words: [u64; 1809], op: Op) {
+    say_seek(op, b"party 8");
+    seek(words, op, 8, 5, -4, &[7, 120]);
+    say_seek(op, b"no field");
+    seek(words, op, 1, 5, -4, &[]);
+    say_seek(op, b"9 fields");
+    seek(words, op, 1, 5, -4, &[7; 9]);
+    say_seek(op, b"partition 64");
+    seek(words, op, 1, 64, -4, &[7, 120]);
+    say_seek(op, b"key 32");
+    seek(words, op, 1, 5, 32, &[7, 120]);
+    say_seek(op, b"key -32");
+    seek(words, op, 1, 5, -32, &[7, 120]);
 }
 
-fn seek_of_bad_fields(words: [u64; 1809], taking: bool) {
-    say_seek(taking, b"field of kind 6");
-    seek(words, taking, 1, 5, -4, &[7, KIND_6]);
-    say_seek(taking, b"field with partition 64");
-    seek(words, taking, 1, 5, -4, &[7, PARTITION + 64]);
-    say_seek(taking, b"field with stored key 63");
-    seek(words, taking, 1, 5, -4, &[7, KEY + 63]);
-    say_seek(taking, b"wildcard with value 1");
-    seek(words, taking, 1, 5, -4, &[7, WILDCARD + 1]);
-    say_seek(taking, b"2 fields, 1 result word");
-    seek_to_one_word(words, taking, -4, &[7, 120]);
+fn seek_of_bad_fields(words: [u64; 1809], op: Op) {
+    say_seek(op, b"field of kind 6");
+    seek(words, op, 1, 5, -4, &[7, KIND_6]);
+    say_seek(op, b"field with partition 64");
+    seek(words, op, 1, 5, -4, &[7, PARTITION + 64]);
+    say_seek(op, b"field with stored key 63");
+    seek(words, op, 1, 5, -4, &[7, KEY + 63]);
+    say_seek(op, b"wildcard with value 1");
+    seek(words, op, 1, 5, -4, &[7, WILDCARD + 1]);
+    say_seek(op, b"2 fields, 1 result word");
+    seek_to_one_word(words, op, -4, &[7, 120]);
 }
 
-fn seek_of_bounds(words: [u64; 1809], taking: bool) {
-    say_seek(taking, b"a row with at least 7");
-    seek(with_a_bound(words), taking, 1, 5, -4, &[7, 120]);
-    say_seek(taking, b"bounds, 1 result word");
-    seek_to_one_word(words, taking, -4, &[AT_MOST + 7, AT_LEAST + 120]);
-    say_seek(taking, b"bounds, nothing wrong");
-    seek(words, taking, 1, 5, -4, &[AT_MOST + 7, AT_LEAST + 120]);
+fn seek_of_bounds(words: [u64; 1809], op: Op) {
+    say_seek(op, b"a row with at least 7");
+    seek(with_a_bound(words), op, 1, 5, -4, &[7, 120]);
+    say_seek(op, b"bounds, 1 result word");
+    seek_to_one_word(words, op, -4, &[AT_MOST + 7, AT_LEAST + 120]);
+    say_seek(op, b"bounds, nothing wrong");
+    seek(words, op, 1, 5, -4, &[AT_MOST + 7, AT_LEAST + 120]);
 }
 
-fn seek_of_others_names(words: [u64; 1809], taking: bool) {
-    say_seek(taking, b"partition 6 not held");
-    seek(words, taking, 1, 6, -4, &[7, 120]);
-    say_seek(taking, b"key 4 not held");
-    seek(words, taking, 1, 5, 4, &[7, 120]);
-    say_seek(taking, b"partition 6 in a field, not held");
-    seek(words, taking, 1, 5, -4, &[7, PARTITION + 6]);
-    say_seek(taking, b"key 4 in a field, not held");
-    seek(words, taking, 1, 5, -4, &[7, KEY + 35]);
+fn seek_of_others_names(words: [u64; 1809], op: Op) {
+    say_seek(op, b"partition 6 not held");
+    seek(words, op, 1, 6, -4, &[7, 120]);
+    say_seek(op, b"key 4 not held");
+    seek(words, op, 1, 5, 4, &[7, 120]);
+    say_seek(op, b"partition 6 in a field, not held");
+    seek(words, op, 1, 5, -4, &[7, PARTITION + 6]);
+    say_seek(op, b"key 4 in a field, not held");
+    seek(words, op, 1, 5, -4, &[7, KEY + 35]);
 }
 
-fn seek_refused_twice(words: [u64; 1809], taking: bool) {
-    say_seek(taking, b"party 8, no field");
-    seek(words, taking, 8, 5, -4, &[]);
-    say_seek(taking, b"9 fields, partition 64");
-    seek(words, taking, 1, 64, -4, &[7; 9]);
-    say_seek(taking, b"key 32, field of kind 6");
-    seek(words, taking, 1, 5, 32, &[7, KIND_6]);
-    say_seek(taking, b"field of kind 6, 1 result word");
-    seek_to_one_word(words, taking, -4, &[7, KIND_6]);
-    say_seek(taking, b"1 result word, key 4 not held");
-    seek_to_one_word(words, taking, 4, &[7, 120]);
+fn seek_refused_twice(words: [u64; 1809], op: Op) {
+    say_seek(op, b"party 8, no field");
+    seek(words, op, 8, 5, -4, &[]);
+    say_seek(op, b"9 fields, partition 64");
+    seek(words, op, 1, 64, -4, &[7; 9]);
+    say_seek(op, b"key 32, field of kind 6");
+    seek(words, op, 1, 5, 32, &[7, KIND_6]);
+    say_seek(op, b"field of kind 6, 1 result word");
+    seek_to_one_word(words, op, -4, &[7, KIND_6]);
+    say_seek(op, b"1 result word, key 4 not held");
+    seek_to_one_word(words, op, 4, &[7, 120]);
 }
 
 // From here on: each call is made on a copy, which is then compared with the words as they were.
@@ -307,33 +309,25 @@ fn put_1808(words: [u64; 1809], party: u32) {
     show(answer, same(&before, &after));
 }
 
-fn seek(words: [u64; 1809], taking: bool, party: u32, partition: u32, key: i32, fields: &[u64]) {
+fn seek(words: [u64; 1809], op: Op, party: u32, partition: u32, key: i32, fields: &[u64]) {
     let mut after = words;
     let mut result = [99u64; 8];
-    let answer = sought(
-        &mut after,
-        taking,
-        party,
-        partition,
-        key,
-        fields,
-        &mut result,
-    );
+    let answer = sought(&mut after, op, party, partition, key, fields, &mut result);
     show(answer, same(&words, &after) & same(&[99; 8], &result));
 }
 
-fn seek_to_one_word(words: [u64; 1809], taking: bool, key: i32, fields: &[u64]) {
+fn seek_to_one_word(words: [u64; 1809], op: Op, key: i32, fields: &[u64]) {
     let mut after = words;
     let mut result = [99u64; 1];
-    let answer = sought(&mut after, taking, 1, 5, key, fields, &mut result);
+    let answer = sought(&mut after, op, 1, 5, key, fields, &mut result);
     show(answer, same(&words, &after) & same(&[99; 1], &result));
 }
 
-fn seek_1808(words: [u64; 1809], taking: bool, party: u32) {
+fn seek_1808(words: [u64; 1809], op: Op, party: u32) {
     let before = first_1808(words);
     let mut after = before;
     let mut result = [99u64; 8];
-    let answer = sought(&mut after, taking, party, 5, -4, &[7, 120], &mut result);
+    let answer = sought(&mut after, op, party, 5, -4, &[7, 120], &mut result);
     show(answer, same(&before, &after) & same(&[99; 8], &result));
 }
 
@@ -418,17 +412,17 @@ fn file_into(bytes: &[u8], before: &[u64], words: &mut [u64]) {
 
 fn sought(
     words: &mut [u64],
-    taking: bool,
+    op: Op,
     party: u32,
     partition: u32,
     key: i32,
     fields: &[u64],
     result: &mut [u64],
 ) -> Answer {
-    if taking {
-        space::take(words, party, partition, key, fields, result)
-    } else {
-        space::read(words, party, partition, key, fields, result)
+    match op {
+        Op::Looking => space::look(words, party, partition, key, fields, result),
+        Op::Receiving => space::receive(words, party, partition, key, fields, result),
+        Op::Taking => space::take(words, party, partition, key, fields, result),
     }
 }
 
@@ -436,11 +430,17 @@ fn say(text: &[u8]) {
     io::write_all(1, text);
 }
 
-fn say_seek(taking: bool, text: &[u8]) {
-    if taking {
-        say(b"take, ");
-    } else {
-        say(b"read, ");
+fn say_seek(op: Op, text: &[u8]) {
+    match op {
+        Op::Looking => {
+            say(b"look, ");
+        }
+        Op::Receiving => {
+            say(b"receive, ");
+        }
+        Op::Taking => {
+            say(b"take, ");
+        }
     }
     say(text);
 }

@@ -21,7 +21,7 @@ pub enum Verdict {
     Refused(u32),
 }
 
-// What becomes of a read or take. Where it passes, the search has to know whether the template has bounds.
+// What becomes of a look, receive or take. Where it passes, the search has to know whether the template has bounds.
 pub enum Admission {
     Plain,
     Bounded,

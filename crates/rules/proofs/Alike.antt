@@ -1,7 +1,7 @@
 -- Two states that look alike to the group: a member's call answers the same in both and leaves them alike, and a call from
 -- elsewhere that is out of the grasp leaves what the group sees.
 use mathlib.Core.Path.{_≡_, refl, sym, ap, _∙_}
-use mathlib.Core.Bool.{Bool, true, false}
+use mathlib.Core.Bool.{Bool, true, false, cond}
 use mathlib.Core.Option.{Option, none, some}
 use mathlib.Core.List.{List, [], _∷_, _++_, append-nil}
 use Prim.Native.Nat.{ℕ, _<_}
@@ -9,10 +9,10 @@ use lib.Dec.{ltb, ltb→lt}
 use lib.ListN.{length}
 use Rattle.rules.specs.Lists.{keep, first, without, All}
 use Rattle.rules.specs.Names.{Name}
-use Rattle.rules.specs.Matching.{storedPair, Entry, Op, reading, taking, matches}
+use Rattle.rules.specs.Matching.{storedPair, Entry, Op, looking, receiving, taking, matches}
 use Rattle.rules.specs.State.{State, holds, withEntries, wrote, live}
 use Rattle.rules.specs.Calls.{Call, put, seek, firstThatApplies, putNames, seekNames, putTable, seekTable, table}
-use Rattle.rules.specs.Calls.{Outcome, decided, entryOf, remaining, gained, finding, serve, step}
+use Rattle.rules.specs.Calls.{Outcome, decided, entryOf, removes, remaining, gained, finding, serve, step}
 use Rattle.rules.specs.Group.{Group, member, byGroup, CallInGrasp, unrefused, groupEntries}
 use Rattle.rules.proofs.BitLaws.{tOf, eqb-true}
 use Rattle.rules.proofs.ListLaws.{and-left, all-same, All-map, keep-append, first-keep, without-keep, without-others, keep-keep}
@@ -72,8 +72,11 @@ module _ (g : Group) where
   remaining-alike : (op : Op) (m : Entry → Bool) (es₁ es₂ : List Entry)
       → All (λ e. own e ≡ false → m e ≡ false) es₁ → All (λ e. own e ≡ false → m e ≡ false) es₂
       → keep own es₁ ≡ keep own es₂ → keep own (remaining op m es₁) ≡ keep own (remaining op m es₂)
-  remaining-alike reading m es₁ es₂ a₁ a₂ h = h
-  remaining-alike taking m es₁ es₂ a₁ a₂ h = without-keep own m es₁ a₁ ∙ ap (without m) h ∙ sym (without-keep own m es₂ a₂)
+  remaining-alike op m es₁ es₂ a₁ a₂ h = go (removes op)
+    where
+      go : (b : Bool) → keep own (cond b (without m es₁) es₁) ≡ keep own (cond b (without m es₂) es₂)
+      go true = without-keep own m es₁ a₁ ∙ ap (without m) h ∙ sym (without-keep own m es₂ a₂)
+      go false = h
 
   module _ (N : Name → Type 0) (s₁ s₂ : State) (h₁ : Closed g N s₁) (h₂ : Closed g N s₂) (h : SameView g s₁ s₂) where
     served-alike : (c : Call ℕ) → byGroup g c ≡ true → firstThatApplies (table s₂ c) ≡ none → SameOutcome g (serve s₁ c) (serve s₂ c)
@@ -144,12 +147,19 @@ module _ (g : Group) where
       m : Entry → Bool
       m = matches op (storedPair p) t
 
+      kept-by : (b : Bool) (m : Entry → Bool) → keep own (without m (s .entries)) ≡ keep own (s .entries)
+          → keep own (cond b (without m (s .entries)) (s .entries)) ≡ keep own (s .entries)
+      kept-by true m e = e
+      kept-by false m e = refl
+
       kept : (op : Op) → ¬ (CallInGrasp N (seek op who p t room)) → keep own (remaining op (matches op (storedPair p) t) (s .entries)) ≡ keep own (s .entries)
-      kept reading q = refl
+      kept looking q = refl
+      kept receiving q = refl
       kept taking q =
-          without-others own (matches taking (storedPair p) t) (s .entries)
+          kept-by (removes taking) (matches taking (storedPair p) t)
+          (without-others own (matches taking (storedPair p) t) (s .entries)
           (All-map (Apart g N) (λ e. own e ≡ true → matches taking (storedPair p) t e ≡ false)
-          (λ e a k. ours-miss N (storedPair p) t e (a .ours k) q) (s .entries) (h .apart))
+          (λ e a k. ours-miss N (storedPair p) t e (a .ours k) q) (s .entries) (h .apart)))
 
       u : State
       u = withEntries (remaining op m (s .entries)) s

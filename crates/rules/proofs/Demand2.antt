@@ -14,14 +14,14 @@ use lib.ListN.{length, getD, drop, length-append}
 use Rattle.rules.specs.Lists.{keep, first, without, All}
 use Rattle.rules.specs.Names.{coStored}
 use Rattle.rules.specs.Fields.{wildcard, field, isBound, fieldAgrees}
-use Rattle.rules.specs.Matching.{Pair, storedPair, Entry, Op, reading, taking, pairFor, fieldsAgree, partitionsAgree, keysAgree, matches}
+use Rattle.rules.specs.Matching.{Pair, storedPair, Entry, Op, looking, receiving, taking, pairFor, fieldsAgree, partitionsAgree, keysAgree, matches}
 use Rattle.rules.specs.State.{State, giveAll, withEntries, wrote, live, limitOf}
 use Rattle.rules.specs.Calls.{Call, put, seek, done, found, nothing, refused}
 use Rattle.rules.specs.Calls.{firstThatApplies, putTable, entryOf, remaining, gained, finding, serve, opened}
 use Rattle.rules.specs.Words.{decode, asked, call, refusals, opening}
 use Rattle.rules.specs.Runs.{run, Line, untaken, strike, recorded, ledger}
 use Rattle.rules.specs.Claims.{Iff, Passes, Matches, MatchingRule, MatchingWithoutBounds, StoredCoKey, NoneExactlyWhenNothingMatches}
-use Rattle.rules.specs.Claims.{FoundIsOldestMatch, TakeRemoves, ReadRemovesNothing, NoRoomExactlyAtSixteen, RowsSuffice, LiveAreThePutsNotTaken}
+use Rattle.rules.specs.Claims.{FoundIsOldestMatch, TakeRemoves, ReceiveRemovesNothing, NoRoomExactlyAtSixteen, RowsSuffice, LiveAreThePutsNotTaken}
 use Rattle.rules.proofs.BitLaws.{eqb-true, eqb-same}
 use Rattle.rules.proofs.ListLaws.{bool, and-left, and-right, All-at, without-split, keep-append}
 use Rattle.rules.proofs.KeyLaws.{stored-le, co-stored}
@@ -139,7 +139,7 @@ none-exactly-when-nothing-matches ws op who p t result e =
     there none h = refl
     there (some x) h = let z : _≡_ {A = ℕ} 0 1 = cc in absurd (omega arith)
 
--- what a read or take found, wrote and left
+-- what a look, receive or take found, wrote and left
 pub record Found (ws : List ℕ) (op : Op) (who : ℕ) (p : Pair ℤ) (t result : List ℕ) (n : ℕ) : Type 0 where
   pub passes : Passes ws (seek op who p t result)
   pub entry : Entry
@@ -219,16 +219,22 @@ take-removes ws who p t result n a m =
     rest = ap (λ s. s .entries) (f .left) ∙ giveAll-entries who (gained taking (f .entry)) _
         ∙ rw (m .place) (without-split _ (m .older) (m .entry) (m .newer) (m .noOlder) (m .match))
 
-read-entries : (s : State) (who : ℕ) (p : Pair ℤ) (t : List ℕ) (room : ℕ) → serve s (seek reading who p t room) .state .entries ≡ s .entries
-read-entries s who p t room = go (first (matches reading (storedPair p) t) (s .entries))
+-- an operation that removes nothing leaves the entries
+kept-entries : (op : Op) → ((m : Entry → Bool) (es : List Entry) → remaining op m es ≡ es)
+    → (s : State) (who : ℕ) (p : Pair ℤ) (t : List ℕ) (room : ℕ) → serve s (seek op who p t room) .state .entries ≡ s .entries
+kept-entries op keeps s who p t room = go (first m (s .entries))
   where
-    go : (o : Option Entry) → finding reading who o (s .entries) s .state .entries ≡ s .entries
-    go none = refl
-    go (some x) = giveAll-entries who (gained reading x) s
+    m : Entry → Bool
+    m = matches op (storedPair p) t
 
-pub read-removes-nothing : ReadRemovesNothing
-read-removes-nothing ws who p t result =
-    call-leaves (λ s. s .entries ≡ decode ws .entries) ws (seek reading who p t result) refl (λ e. read-entries (decode ws) who p t (length result))
+    go : (o : Option Entry) → finding op who o (remaining op m (s .entries)) s .state .entries ≡ s .entries
+    go none = refl
+    go (some x) = giveAll-entries who (gained op x) (withEntries (remaining op m (s .entries)) s) ∙ keeps m (s .entries)
+
+pub receive-removes-nothing : ReceiveRemovesNothing
+receive-removes-nothing ws who p t result =
+    call-leaves (λ s. s .entries ≡ decode ws .entries) ws (seek receiving who p t result) refl
+    (λ e. kept-entries receiving (λ m es. refl) (decode ws) who p t (length result))
 
 -- ---- room
 
@@ -294,13 +300,15 @@ entries-strike m (l ∷ ls) = go (bool (l .taken)) (bool (m (l .entry))) (entrie
 
 recorded-refused : (c : Call (List ℕ)) (n : ℕ) (ls : List Line) → recorded c (refused n) ls ≡ ls
 recorded-refused (put who r t fs) n ls = refl
-recorded-refused (seek reading who p t result) n ls = refl
+recorded-refused (seek looking who p t result) n ls = refl
+recorded-refused (seek receiving who p t result) n ls = refl
 recorded-refused (seek taking who p t result) n ls = refl
 
 serve-recorded : (s : State) (c : Call (List ℕ)) (ls : List Line) → s .entries ≡ entriesOf ls
     → serve s (asked c) .state .entries ≡ entriesOf (recorded c (serve s (asked c) .answer) ls)
 serve-recorded s (put who r t fs) ls e = rw e (sym (entries-snoc ls (entryOf who r t fs)))
-serve-recorded s (seek reading who p t result) ls e = read-entries s who p t (length result) ∙ e
+serve-recorded s (seek looking who p t result) ls e = kept-entries looking (λ m es. refl) s who p t (length result) ∙ e
+serve-recorded s (seek receiving who p t result) ls e = kept-entries receiving (λ m es. refl) s who p t (length result) ∙ e
 serve-recorded s (seek taking who p t result) ls e = go (first m (s .entries))
   where
     m : Entry → Bool

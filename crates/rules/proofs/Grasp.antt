@@ -2,7 +2,7 @@
 -- wrote is out of the group's grasp.
 use mathlib.Core.Path.{_≡_, refl, sym, ap, _∙_, subst}
 use mathlib.Core.Logic.{inl, inr}
-use mathlib.Core.Bool.{Bool, true, false, not, _&&_}
+use mathlib.Core.Bool.{Bool, true, false, not, _&&_, cond}
 use mathlib.Core.Option.{Option, none, some}
 use mathlib.Core.List.{List, [], _∷_, _++_}
 use Prim.Native.Nat.{ℕ, _≤_}
@@ -13,14 +13,15 @@ use lib.ListN.{length}
 use Rattle.rules.specs.Lists.{all, first, without, All}
 use Rattle.rules.specs.Names.{Name, partition, key, keyInRange, coStored}
 use Rattle.rules.specs.Fields.{namesIn}
-use Rattle.rules.specs.Matching.{Pair, storedPair, Entry, Op, reading, taking, pairFor, fieldsAgree, partitionsAgree, keysAgree, matches}
+use Rattle.rules.specs.Matching.{Pair, storedPair, Entry, Op, looking, receiving, taking, pairFor, fieldsAgree, partitionsAgree, keysAgree, matches}
 use Rattle.rules.specs.State.{State, holds, give, giveAll, withEntries}
 use Rattle.rules.specs.Calls.{Call, put, seek, partyOf, firstThatApplies, badPair, putNames, seekNames, putTable, seekTable, table}
-use Rattle.rules.specs.Calls.{entryOf, remaining, gained, finding, serve, step}
+use Rattle.rules.specs.Calls.{entryOf, removes, remaining, gained, finding, serve, step}
 use Rattle.rules.specs.Group.{Group, member, byGroup, Reaches, EntryInGrasp, CallInGrasp, unrefused}
 use Rattle.rules.proofs.BitLaws.{eqb-true}
 use Rattle.rules.proofs.ListLaws.{bool, clash, and-left, and-right, or-right, not-false, passed, all-true, All-map, All-snoc, All-without, first-All}
 use Rattle.rules.proofs.KeyLaws.{stored-le}
+use Rattle.rules.proofs.Kept.{All-gained}
 use Rattle.rules.proofs.Gifts.{giveAll-entries, EightEach, giveAll-eight, SameWords, holds-same, giveAll-other, holds-give}
 use Rattle.rules.proofs.StateRuns.{step-cases, serve-unrefused}
 
@@ -86,7 +87,8 @@ module _ (N : Name → Type 0) (p : Pair ℕ) (t : List ℕ) (e : Entry) where
   theirs-miss op h c = elim (bool (matches op p t e)) [ inl m ↦ absurd (go op (match-pair op p t e m)) | inr m ↦ m ]
     where
       go : (op : Op) → (pairFor op e .partition ≡ p .partition) × (coStored (pairFor op e .key) ≡ p .key) → ⊥
-      go reading q = h (inl (rw (q .0) (c .0), rw (q .1) (c .1)))
+      go looking q = h (inl (rw (q .0) (c .0), rw (q .1) (c .1)))
+      go receiving q = h (inl (rw (q .0) (c .0), rw (q .1) (c .1)))
       go taking q = h (inr (rw (q .0) (c .0), rw (q .1) (c .1)))
 
   -- a member's entry matches no take out of the grasp
@@ -140,8 +142,11 @@ module _ (g : Group) (N : Name → Type 0) where
   closed-put e s a h = closed-with (s .entries ++ (e ∷ [])) s (All-snoc (Apart g N) (s .entries) e (h .apart) a) h
 
   closed-remaining : (op : Op) (m : Entry → Bool) (s : State) → Closed g N s → Closed g N (withEntries (remaining op m (s .entries)) s)
-  closed-remaining reading m s h = closed-with (s .entries) s (h .apart) h
-  closed-remaining taking m s h = closed-with (without m (s .entries)) s (All-without (Apart g N) m (s .entries) (h .apart)) h
+  closed-remaining op m s h = go (removes op)
+    where
+      go : (b : Bool) → Closed g N (withEntries (cond b (without m (s .entries)) (s .entries)) s)
+      go true = closed-with (without m (s .entries)) s (All-without (Apart g N) m (s .entries) (h .apart)) h
+      go false = closed-with (s .entries) s (h .apart) h
 
   -- ---- a member's call keeps the invariant
   pub needed-inside : (s : State) (c : Call ℕ) → Closed g N s → byGroup g c ≡ true → firstThatApplies (table s c) ≡ none → All N (needed c)
@@ -173,7 +178,7 @@ module _ (g : Group) (N : Name → Type 0) where
           let r : Apart g N x × (m x ≡ true) = first-All (Apart g N) m (s .entries) x (h .apart) f in
           let miss : member g (x .writer) ≡ false → m x ≡ false = λ z. theirs-miss N (storedPair p) t x op (r .0 .theirs z) (a .0, a .1 .0) in
           let w : member g (x .writer) ≡ true = elim (bool (member g (x .writer))) [ inl y ↦ y | inr z ↦ clash (m x) (r .1) (miss z) ] in
-          closed-give who (gained op x) (withEntries (remaining op m (s .entries)) s) (r .0 .ours w .carried) (closed-remaining op m s h)
+          closed-give who (gained op x) (withEntries (remaining op m (s .entries)) s) (All-gained N op x (r .0 .ours w .carried)) (closed-remaining op m s h)
 
   pub closed-own : (s : State) (c : Call ℕ) → Closed g N s → byGroup g c ≡ true → Closed g N (step s c .state)
   closed-own s c h hw = step-cases (λ o. Closed g N (o .state)) s c (λ n. h) (own-served s c h hw)

@@ -1,6 +1,6 @@
 -- Who holds what: after an opening, after a search that found something, and after a put.
 use mathlib.Core.Path.{_≡_, refl, sym, ap, _∙_}
-use mathlib.Core.Logic.{_⊎_, inl, inr}
+use mathlib.Core.Logic.{_⊎_, inl, inr, _≢_}
 use mathlib.Core.Bool.{Bool, true}
 use mathlib.Core.List.{List, [], _∷_, map}
 use Prim.Native.Nat.{ℕ, zero, suc, _+_, _<_}
@@ -11,9 +11,9 @@ use lib.Seq.{take-at, getD-take, getD-drop}
 use Rattle.rules.specs.Lists.{In}
 use Rattle.rules.specs.Names.{Name, partition, key, coKey, stored, bit, withBit, defaultPartition, defaultKey, heldIn}
 use Rattle.rules.specs.Fields.{namesIn}
-use Rattle.rules.specs.Matching.{storedPair, matches}
+use Rattle.rules.specs.Matching.{storedPair, Entry, Op, looking, receiving, taking, matches}
 use Rattle.rules.specs.State.{State, holds, giveAll, withEntries}
-use Rattle.rules.specs.Calls.{Call, put, seek, remaining, opened}
+use Rattle.rules.specs.Calls.{Call, put, seek, remaining, gained, opened}
 use Rattle.rules.specs.Words.{decode, asked, call, opening}
 use Rattle.rules.specs.Claims.{Iff, IsDefault, OpeningHoldings, foundNames, Gains, FoundGives, CarriedKeyAlone, PutGivesNothing}
 use Rattle.rules.proofs.BitLaws.{bit-with, bit-kept, bit-self}
@@ -77,7 +77,7 @@ opening-holdings ws roster d = record { noEntry = rw left refl; holdings = rw le
 
 pub found-gives : FoundGives
 unfolding holds
-found-gives ws op who p t result n a =
+found-gives ws op who p t result n no-look a =
     record {
       own = λ m. rw (f .left, names) (own m);
       others = λ q m ne. rw (f .left) (holds-same q (giveAll who ns s) (decode ws) (giveAll-other who q ns s ne) m);
@@ -90,13 +90,18 @@ found-gives ws op who p t result n a =
     f = found-by ws op who p t result n a
 
     ns : List Name
-    ns = namesIn (f .entry .fields)
+    ns = gained op (f .entry)
+
+    all-of : (op : Op) (e : Entry) → op ≢ looking → gained op e ≡ namesIn (e .fields)
+    all-of looking e h = absurd (h refl)
+    all-of receiving e h = refl
+    all-of taking e h = refl
 
     s : State
     s = withEntries (remaining op (matches op (storedPair p) t) (decode ws .entries)) (decode ws)
 
     names : foundNames ws c n ≡ ns
-    names = rw (f .written, take-at (f .entry .fields) (drop n result) n (sym (f .count))) refl
+    names = rw (f .written, take-at (f .entry .fields) (drop n result) n (sym (f .count))) (sym (all-of op (f .entry) no-look))
 
     eight : EightEach s
     eight = let w : WF (decode ws) = wf-decode ws (passes-sound ws c (f .passes)) in (w .partitionsLen, w .keysLen)
@@ -109,11 +114,11 @@ found-gives ws op who p t result n a =
         there (inr i) = giveAll-has who ns m s (party-ok (decode ws) (asked c) (passes-table ws c (f .passes))) eight i
 
 pub carried-key-alone : CarriedKeyAlone
-carried-key-alone ws op who p t result n k a i h ni =
+carried-key-alone ws op who p t result n k no-look a i h ni =
     (g .own (key (stored k)) .1 (inr i), elim (bool b) [ inl e ↦ absurd (never (g .own co .0 e)) | inr e ↦ e ])
   where
     g : Gains who (foundNames ws (seek op who p t result) n) ws (call ws (seek op who p t result) .space)
-    g = found-gives ws op who p t result n a
+    g = found-gives ws op who p t result n no-look a
 
     co : Name
     co = key (stored (coKey k))

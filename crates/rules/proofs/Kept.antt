@@ -13,10 +13,10 @@ use lib.ListN.{length, getD, set, take, drop, length-append, length-set, length-
 use Rattle.rules.specs.Lists.{all, keep, first, without, All}
 use Rattle.rules.specs.Names.{Name, partition, key, NameInRange, keyInRange, bit, withBit, defaultPartition, defaultKey}
 use Rattle.rules.specs.Fields.{Field, message, name, wildcard, atLeast, atMost, bad, field, putField, nameIn, namesIn}
-use Rattle.rules.specs.Matching.{Pair, storedPair, Entry, Op, reading, taking, matches}
+use Rattle.rules.specs.Matching.{Pair, storedPair, Entry, Op, matches}
 use Rattle.rules.specs.State.{State, give, giveAll, withEntries, wrote, live, limitOf}
 use Rattle.rules.specs.Calls.{Call, put, seek, partyOf, firstThatApplies, badPair, putTable, seekTable, table}
-use Rattle.rules.specs.Calls.{entryOf, remaining, gained, finding, serve, decided, step, opened}
+use Rattle.rules.specs.Calls.{entryOf, removes, remaining, grants, gained, finding, serve, decided, step, opened}
 use Rattle.rules.proofs.BitLaws.{eqb-true, eqb-same, bit-with, bit-kept, bit-self}
 use Rattle.rules.proofs.ListLaws.{bool, clash, and-left, and-right, or-left, or-right, not-false, passed, All-map, All-snoc, All-without, keep-append}
 use Rattle.rules.proofs.KeyLaws.{stored-le}
@@ -97,6 +97,14 @@ field-ok w bad e = tt
 pub namesIn-ok : (ws : List ℕ) → All NameInRange (namesIn ws)
 namesIn-ok [] = tt
 namesIn-ok (w ∷ ws) = All-append NameInRange (nameIn (field w)) (namesIn ws) (field-ok w (field w) refl) (namesIn-ok ws)
+
+-- what holds of all names in an entry's fields holds of those that an operation gains
+pub All-gained : (P : Name → Type 0) (op : Op) (e : Entry) → All P (namesIn (e .fields)) → All P (gained op e)
+All-gained P op e h = go (grants op)
+  where
+    go : (b : Bool) → All P (cond b (namesIn (e .fields)) [])
+    go true = h
+    go false = tt
 
 -- ---- holdings
 
@@ -183,12 +191,18 @@ entry-ok s who r t fs h =
     )
 
 remaining-ok : (op : Op) (m : Entry → Bool) (es : List Entry) → All EntryOk es → All EntryOk (remaining op m es)
-remaining-ok reading m es h = h
-remaining-ok taking m es h = All-without EntryOk m es h
+remaining-ok op m es h = go (removes op)
+  where
+    go : (b : Bool) → All EntryOk (cond b (without m es) es)
+    go true = All-without EntryOk m es h
+    go false = h
 
 remaining-live : (op : Op) (m : Entry → Bool) (es : List Entry) (p : ℕ) → live p (remaining op m es) ≤ live p es
-remaining-live reading m es p = le-refl (live p es)
-remaining-live taking m es p = live-without p m es
+remaining-live op m es p = go (removes op)
+  where
+    go : (b : Bool) → live p (cond b (without m es) es) ≤ live p es
+    go true = live-without p m es
+    go false = le-refl (live p es)
 
 pub wf-remaining : (op : Op) (m : Entry → Bool) (s : State) → WF s → WF (withEntries (remaining op m (s .entries)) s)
 wf-remaining op m s h =
@@ -226,7 +240,7 @@ wf-serve s (seek op who p t room) h q = go (first m (s .entries))
     go : (o : Option Entry) → WF (finding op who o es s .state)
     go none = h
     go (some x) =
-        wf-giveAll who (gained op x) (withEntries es s) (namesIn-ok (x .fields)) (wf-remaining op m s h)
+        wf-giveAll who (gained op x) (withEntries es s) (All-gained NameInRange op x (namesIn-ok (x .fields))) (wf-remaining op m s h)
 
 pub wf-step : (s : State) (c : Call ℕ) → WF s → WF (step s c .state)
 unfolding step

@@ -17,5 +17,6 @@ pub mod Decided
 pub mod Lift
 pub mod Demand1
 pub mod Demand2
+pub mod Looks
 pub mod Holdings
 pub mod Cases

@@ -10,7 +10,7 @@ use lib.ListN.{length, take, drop}
 use lib.Seq.{take-append-seam}
 use Rattle.rules.specs.Lists.{keep, first}
 use Rattle.rules.specs.Names.{Name}
-use Rattle.rules.specs.Matching.{storedPair, Entry, reading, taking, matches}
+use Rattle.rules.specs.Matching.{storedPair, Entry, looking, receiving, taking, matches}
 use Rattle.rules.specs.State.{State}
 use Rattle.rules.specs.Calls.{Call, put, seek, partyOf, Outcome, remaining, finding, serve, step, opened}
 use Rattle.rules.specs.Words.{encode, decode, asked, resultOf, exitOf, call, opening}
@@ -47,7 +47,8 @@ asked-group g (seek op who p t result) = refl
 
 asked-grasp : (N : Name → Type 0) (c : Call (List ℕ)) → CallInGrasp N (asked c) → CallInGrasp N c
 asked-grasp N (put who r t fs) h = h
-asked-grasp N (seek reading who p t result) h = h
+asked-grasp N (seek looking who p t result) h = h
+asked-grasp N (seek receiving who p t result) h = h
 asked-grasp N (seek taking who p t result) h = h
 
 -- ---- runs

@@ -1,5 +1,5 @@
 -- The calls on a state: when each is refused, what it answers, and what it leaves.
-use mathlib.Core.Bool.{Bool, not, _||_, cond}
+use mathlib.Core.Bool.{Bool, true, false, not, _||_, cond}
 use mathlib.Core.List.{List, [], _∷_, _++_, map}
 use mathlib.Core.Option.{Option, none, some}
 use Prim.Native.Nat.{ℕ}
@@ -9,15 +9,15 @@ use lib.ListN.{length, take, drop}
 use Rattle.rules.specs.Lists.{all, first, without}
 use Rattle.rules.specs.Names.{Name, partition, key, keyInRange, withBit, defaultPartition, defaultKey}
 use Rattle.rules.specs.Fields.{putField, templateField, namesIn}
-use Rattle.rules.specs.Matching.{Pair, storedPair, Entry, Op, reading, taking, matches}
+use Rattle.rules.specs.Matching.{Pair, storedPair, Entry, Op, looking, receiving, taking, matches}
 use Rattle.rules.specs.State.{State, holds, giveAll, withEntries, live, limitOf}
 
--- G2: a call after the opening. R is what a read or take has of its result words: the words themselves where it is made,
+-- G2: a call after the opening. R is what a look, receive or take has of its result words: the words themselves where it is made,
 -- their number alone where calls are compared
 pub data Call (R : Type 0) : Type 0 where
   -- the party, the read pair, the take pair, the fields
   put : ℕ → Pair ℤ → Pair ℤ → List ℕ → Call R
-  -- read or take, the party, the template's pair and fields, the result words
+  -- look, receive or take, the party, the template's pair and fields, the result words
   seek : Op → ℕ → Pair ℤ → List ℕ → R → Call R
 
 abbrev pub partyOf : {R : Type 0} → Call R → ℕ
@@ -70,7 +70,7 @@ putTable s who r t fs =
     ∷ (leb (limitOf s who) (live who (s .entries)), 8)
     ∷ []
 
--- R2 to R7, for a read or a take with that many result words
+-- R2 to R7, for a look, receive or take with that many result words
 unfoldable pub seekTable : State → ℕ → Pair ℤ → List ℕ → ℕ → Table
 seekTable s who p t room =
     (ltb 7 who, 2)
@@ -103,16 +103,27 @@ entryOf who r t fs = record { writer = who; readPair = storedPair r; takePair = 
 abbrev pub served : Entry → State → Outcome
 served e s = record { answer = done; fields = []; state = withEntries (s .entries ++ (e ∷ [])) s }
 
--- C3, C4: the entries left once the oldest match is found
+-- C4: whether the operation removes what it finds
+abbrev pub removes : Op → Bool
+removes looking = false
+removes receiving = false
+removes taking = true
+
+-- C3, C4, C8: the entries left once the oldest match is found
 abbrev pub remaining : Op → (Entry → Bool) → List Entry → List Entry
-remaining reading m es = es
-remaining taking m es = without m es
+remaining op m es = cond (removes op) (without m es) es
 
--- C3: the names that the party gains from what it found; of a carried key the key alone, not its co-key
+-- C3, C4, C8: whether the operation grants its party the names in what it finds
+abbrev pub grants : Op → Bool
+grants looking = false
+grants receiving = true
+grants taking = true
+
+-- C3, C4, C8: the names that the party gains; of a carried key the key alone, not its co-key
 abbrev pub gained : Op → Entry → List Name
-gained op e = namesIn (e .fields)
+gained op e = cond (grants op) (namesIn (e .fields)) []
 
--- C3 to C5: by what the search found: nothing, or the oldest match
+-- C3 to C5, C8: by what the search found: nothing, or the oldest match
 abbrev pub finding : Op → ℕ → Option Entry → List Entry → State → Outcome
 finding op who none es s = unchanged nothing s
 finding op who (some e) es s =
@@ -122,7 +133,7 @@ finding op who (some e) es s =
 abbrev pub sought : Op → ℕ → (Entry → Bool) → State → Outcome
 sought op who m s = finding op who (first m (s .entries)) (remaining op m (s .entries)) s
 
--- C2 to C4: a call that no test turns away
+-- C2 to C4, C8: a call that no test turns away
 abbrev pub serve : State → Call ℕ → Outcome
 serve s (put who r t fs) = served (entryOf who r t fs) s
 serve s (seek op who p t room) = sought op who (matches op (storedPair p) t) s

@@ -7,7 +7,7 @@ use lib.IntN.{ℤ, pos, negsuc}
 use Rattle.rules.specs.Lists.{All}
 use Rattle.rules.specs.Names.{Name, partition, key, coKey, stored}
 use Rattle.rules.specs.Fields.{name, field, nameWord}
-use Rattle.rules.specs.Matching.{Pair, pair, Op, reading, taking}
+use Rattle.rules.specs.Matching.{Pair, pair, Op, receiving, taking}
 use Rattle.rules.specs.State.{holds}
 use Rattle.rules.specs.Calls.{Call, put, seek, done, found, nothing, refused}
 use Rattle.rules.specs.Words.{zeros, decode, opening}
@@ -74,17 +74,17 @@ times zero x xs = xs
 times (suc n) x xs = x ∷ times n x xs
 
 abbrev pub carrying : List (Call (List ℕ))
-carrying = puts 0 defaults (p 5 ∷ k (pos 4) ∷ []) ∷ asks reading 2 defaults (any ∷ any ∷ []) ∷ []
+carrying = puts 0 defaults (p 5 ∷ k (pos 4) ∷ []) ∷ asks receiving 2 defaults (any ∷ any ∷ []) ∷ []
 
 abbrev pub twelve : List Case
 twelve =
     -- (a) to (e)
     answered
     (puts 0 own (m 7 ∷ m 120 ∷ [])
-    ∷ asks reading 1 other (m 7 ∷ any ∷ [])
+    ∷ asks receiving 1 other (m 7 ∷ any ∷ [])
     ∷ asks taking 0 other (any ∷ any ∷ [])
     ∷ asks taking 1 other (any ∷ any ∷ [])
-    ∷ asks reading 1 other (any ∷ any ∷ [])
+    ∷ asks receiving 1 other (any ∷ any ∷ [])
     ∷ [])
     ((done, []) ∷ (found 2, m 7 ∷ m 120 ∷ []) ∷ (refused 7, []) ∷ (found 2, m 7 ∷ m 120 ∷ []) ∷ (nothing, []) ∷ [])
     -- (f)

@@ -10,7 +10,7 @@ use lib.ListN.{length, getD, take, drop}
 use Rattle.rules.specs.Lists.{all, keep, All, In}
 use Rattle.rules.specs.Names.{Name, partition, key, NameInRange, keyInRange, coKey, stored, coStored, defaultPartition, defaultKey, heldIn}
 use Rattle.rules.specs.Fields.{message, name, wildcard, field, nameWord, isBound, putField, namesIn, fieldAgrees}
-use Rattle.rules.specs.Matching.{Pair, storedPair, Entry, Op, reading, taking, pairFor, matches}
+use Rattle.rules.specs.Matching.{Pair, storedPair, Entry, Op, looking, receiving, taking, pairFor, matches}
 use Rattle.rules.specs.State.{holds, live, wrote}
 use Rattle.rules.specs.Calls.{Call, put, seek, done, found, nothing, refused, Table, firstThatApplies, badCount, badPair, putNames}
 use Rattle.rules.specs.Words.{decode, sound, resultOf, call, refusals, badRoster, openRefusals, opening}
@@ -138,11 +138,23 @@ TakeRemoves =
     → (m : OldestMatch ws taking p t result n (call ws (seek taking who p t result) .result))
     → Removed (m .older) (m .entry) (m .newer) ws (call ws (seek taking who p t result) .space)
 
--- C3: a read removes nothing, whatever it answers
-abbrev pub ReadRemovesNothing : Type 0
-ReadRemovesNothing =
+-- C3: a receive removes nothing, whatever it answers
+abbrev pub ReceiveRemovesNothing : Type 0
+ReceiveRemovesNothing =
     (ws : List ℕ) (who : ℕ) (p : Pair ℤ) (t result : List ℕ)
-    → decode (call ws (seek reading who p t result) .space) .entries ≡ decode ws .entries
+    → decode (call ws (seek receiving who p t result) .space) .entries ≡ decode ws .entries
+
+-- C8: a look changes no word of the space, whatever it answers
+abbrev pub LookChangesNoWord : Type 0
+LookChangesNoWord =
+    (ws : List ℕ) (who : ℕ) (p : Pair ℤ) (t result : List ℕ) → call ws (seek looking who p t result) .space ≡ ws
+
+-- C8: a look answers what a receive on the same space does, and leaves the same result words
+abbrev pub LookAnswersAsReceive : Type 0
+LookAnswersAsReceive =
+    (ws : List ℕ) (who : ℕ) (p : Pair ℤ) (t result : List ℕ)
+    → (call ws (seek looking who p t result) .answer ≡ call ws (seek receiving who p t result) .answer)
+    × (call ws (seek looking who p t result) .result ≡ call ws (seek receiving who p t result) .result)
 
 -- R1 to R7 turn the put away by no test
 pub record PassesOneToSeven (ws : List ℕ) (who : ℕ) (r t : Pair ℤ) (fs : List ℕ) : Type 0 where
@@ -189,7 +201,7 @@ pub record OpenedWith (roster after : List ℕ) : Type 0 where
 abbrev pub OpeningHoldings : Type 0
 OpeningHoldings = (ws roster : List ℕ) → opening ws roster .answer ≡ done → OpenedWith roster (opening ws roster .space)
 
--- F5: the names in the n fields that a read or take has found
+-- F5: the names in the n fields that a call has found
 abbrev pub foundNames : List ℕ → Call (List ℕ) → ℕ → List Name
 foundNames ws c n = namesIn (take n (call ws c .result))
 
@@ -198,17 +210,18 @@ pub record Gains (who : ℕ) (names : List Name) (ws after : List ℕ) : Type 0 
   pub own : (n : Name) → Iff (holds (decode after) who n ≡ true) ((holds (decode ws) who n ≡ true) ⊎ In n names)
   pub others : (p : ℕ) (n : Name) → p ≢ who → holds (decode after) p n ≡ holds (decode ws) p n
 
+-- C3, C4: a receive or take that finds gives these names
 abbrev pub FoundGives : Type 0
 FoundGives =
     (ws : List ℕ) (op : Op) (who : ℕ) (p : Pair ℤ) (t result : List ℕ) (n : ℕ)
-    → call ws (seek op who p t result) .answer ≡ found n
+    → op ≢ looking → call ws (seek op who p t result) .answer ≡ found n
     → Gains who (foundNames ws (seek op who p t result) n) ws (call ws (seek op who p t result) .space)
 
 -- C3: a carried key is gained without its co-key, unless that was held before or is carried too
 abbrev pub CarriedKeyAlone : Type 0
 CarriedKeyAlone =
     (ws : List ℕ) (op : Op) (who : ℕ) (p : Pair ℤ) (t result : List ℕ) (n : ℕ) (k : ℤ)
-    → call ws (seek op who p t result) .answer ≡ found n
+    → op ≢ looking → call ws (seek op who p t result) .answer ≡ found n
     → In (key (stored k)) (foundNames ws (seek op who p t result) n)
     → holds (decode ws) who (key (stored (coKey k))) ≡ false
     → ¬ (In (key (stored (coKey k))) (foundNames ws (seek op who p t result) n))

@@ -1,18 +1,18 @@
 -- The watched group, and the claims of isolation (noninterference) and secrecy about every two runs.
 use mathlib.Core.Path.{_≡_}
 use mathlib.Core.Logic.{_⊎_}
-use mathlib.Core.Bool.{Bool, true, false, not, _&&_}
+use mathlib.Core.Bool.{Bool, true, false, not, _&&_, _||_}
 use mathlib.Core.List.{List, [], _∷_, _++_, map}
 use Prim.Native.Nat.{ℕ}
 use lib.Dec.{ltb}
 use lib.ListN.{getD, take}
 use Rattle.rules.specs.Lists.{keep}
 use Rattle.rules.specs.Names.{Name, partition, key, coStored}
-use Rattle.rules.specs.Matching.{Pair, storedPair, Entry, reading, taking}
+use Rattle.rules.specs.Matching.{Pair, storedPair, Entry, looking, receiving, taking}
 use Rattle.rules.specs.State.{State, holds}
 use Rattle.rules.specs.Calls.{Call, put, seek, partyOf, Answer, done, found, nothing, refused, entryOf}
 use Rattle.rules.specs.Words.{decode, asked, call, opening}
-use Rattle.rules.specs.Runs.{run, replies}
+use Rattle.rules.specs.Runs.{run, replies, Line, ledger}
 
 -- G3: the group is a set of parties; a party above 7 is in no group
 abbrev pub Group : Type 0
@@ -39,10 +39,11 @@ Reaches N p = N (partition (p .partition)) × N (key (coStored (p .key)))
 abbrev pub EntryInGrasp : (Name → Type 0) → Entry → Type 0
 EntryInGrasp N e = Reaches N (e .readPair) ⊎ Reaches N (e .takePair)
 
--- G5, G6: a put or a take in the group's "grasp"; reads never are
+-- G5, G6: a put or a take in the group's "grasp"; looks and receives never are
 abbrev pub CallInGrasp : {R : Type 0} → (Name → Type 0) → Call R → Type 0
 CallInGrasp N (put who r t fs) = EntryInGrasp N (entryOf who r t fs)
-CallInGrasp N (seek reading who p t result) = ⊥
+CallInGrasp N (seek looking who p t result) = ⊥
+CallInGrasp N (seek receiving who p t result) = ⊥
 CallInGrasp N (seek taking who p t result) = Reaches N (storedPair p)
 
 abbrev pub unrefused : Answer → Bool
@@ -95,6 +96,29 @@ Isolation =
     → OutOfGrasp g (NamesAt g (opening old₁ roster₁ .space)) (opening old₁ roster₁ .space) cs₁
     → OutOfGrasp g (NamesAt g (opening old₂ roster₂ .space)) (opening old₂ roster₂ .space) cs₂
     → Isolated g (opening old₁ roster₁ .space) (opening old₂ roster₂ .space) cs₁ cs₂
+
+-- ---- looks from elsewhere
+
+-- C8: the call is a look
+abbrev pub isLook : {R : Type 0} → Call R → Bool
+isLook (put who r t fs) = false
+isLook (seek looking who p t result) = true
+isLook (seek receiving who p t result) = false
+isLook (seek taking who p t result) = false
+
+-- G3: the calls without the looks that come from elsewhere
+abbrev pub lessLooks : Group → List (Call (List ℕ)) → List (Call (List ℕ))
+lessLooks g cs = keep (λ c. byGroup g c || not (isLook c)) cs
+
+-- G8, A2: with these looks and without them the group's answers and fields are the same, and so are all words and the ledger
+pub record LooksUnfelt (g : Group) (ws : List ℕ) (cs : List (Call (List ℕ))) : Type 0 where
+  pub sameReplies : replies (byGroup g) ws (lessLooks g cs) ≡ replies (byGroup g) ws cs
+  pub sameWords : run ws (lessLooks g cs) ≡ run ws cs
+  pub sameLedger : (ls : List Line) → ledger ws (lessLooks g cs) ls ≡ ledger ws cs ls
+
+-- G7: looks from elsewhere are free: whatever they name and whatever they find, nobody can tell that they were made
+abbrev pub LooksAreFree : Type 0
+LooksAreFree = (g : Group) (ws : List ℕ) (cs : List (Call (List ℕ))) → LooksUnfelt g ws cs
 
 -- ---- secrecy: what a group does out of the others' grasp, the others can't tell
 

@@ -26,12 +26,14 @@ pub record Entry : Type 0 where
   pub takePair : Pair ℕ
   pub fields : List ℕ
 
--- C3, C4: the two operations that search
+-- C3, C4, C8: the three operations that search; `receiving` is "read" in the papers
 pub data Op : Type 0 where
-  reading taking : Op
+  looking receiving taking : Op
 
+-- M3, M4: the pair that counts for the operation
 abbrev pub pairFor : Op → Entry → Pair ℕ
-pairFor reading e = e .readPair
+pairFor looking e = e .readPair
+pairFor receiving e = e .readPair
 pairFor taking e = e .takePair
 
 -- M2: each field of the template agrees with the entry's field in its place

@@ -1,9 +1,9 @@
--- Runs: an opening answered "done", then a list of puts, reads and takes, each on the words that the one before left.
+-- Runs: an opening answered "done", then a list of puts, looks, receives and takes, each on the words that the one before left.
 use mathlib.Core.Bool.{Bool, true, false, not, _&&_, cond}
 use mathlib.Core.List.{List, [], _∷_, _++_}
 use Prim.Native.Nat.{ℕ}
 use lib.ListN.{take}
-use Rattle.rules.specs.Matching.{storedPair, Entry, reading, taking, matches}
+use Rattle.rules.specs.Matching.{storedPair, Entry, looking, receiving, taking, matches}
 use Rattle.rules.specs.Calls.{Call, put, seek, Answer, done, found, nothing, refused, entryOf}
 use Rattle.rules.specs.Words.{Exit, call}
 
@@ -51,7 +51,8 @@ recorded (put who r t fs) done ls = ls ++ (record { entry = entryOf who r t fs; 
 recorded (put who r t fs) (found n) ls = ls
 recorded (put who r t fs) nothing ls = ls
 recorded (put who r t fs) (refused n) ls = ls
-recorded (seek reading who p t result) a ls = ls
+recorded (seek looking who p t result) a ls = ls
+recorded (seek receiving who p t result) a ls = ls
 recorded (seek taking who p t result) done ls = ls
 recorded (seek taking who p t result) (found n) ls = strike (matches taking (storedPair p) t) ls
 recorded (seek taking who p t result) nothing ls = ls

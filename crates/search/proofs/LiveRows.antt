@@ -20,7 +20,7 @@ use Rattle.rules.proofs.Back.{SoundFacts, sound-facts, row-back}
 use Rattle.search.specs.Place.{meant}
 use Rattle.search.specs.Pairs.{offset, SmallAt, pairAt}
 use Rattle.search.specs.declared.Op.{Op}
-use Rattle.search.specs.declared.Op.the-variants.{Reading, Taking}
+use Rattle.search.specs.declared.Op.the-variants.{Looking, Receiving, Taking}
 
 -- L4: the entry of the row that begins at that word
 abbrev pub entryOn : List ℕ → ℕ → Entry
@@ -78,7 +78,8 @@ fields-last true f p = and-comm f p
 fields-last false f p = refl
 
 pub offset-le : (op : Op) (n : ℕ) → n ≡ offset op → n ≤ 3
-offset-le Reading n e = omega arith
+offset-le Looking n e = omega arith
+offset-le Receiving n e = omega arith
 offset-le Taking n e = omega arith
 
 module _ {ws : List ℕ} {r at : ℕ} (row : LiveRow ws r at) where
@@ -86,7 +87,8 @@ module _ {ws : List ℕ} {r at : ℕ} (row : LiveRow ws r at) where
   pair-on : (op : Op) → (pairFor (meant op) (entryOn ws at) .partition ≡ getD ws (at + offset op) 0)
       × (pairFor (meant op) (entryOn ws at) .key ≡ getD ws (at + (offset op + 1)) 0)
       × PairOk (pairFor (meant op) (entryOn ws at))
-  pair-on Reading = (getD-drop at ws 1 0, getD-drop at ws 2 0, row .ok .readOk)
+  pair-on Looking = (getD-drop at ws 1 0, getD-drop at ws 2 0, row .ok .readOk)
+  pair-on Receiving = (getD-drop at ws 1 0, getD-drop at ws 2 0, row .ok .readOk)
   pair-on Taking = (getD-drop at ws 3 0, getD-drop at ws 4 0, row .ok .takeOk)
 
   -- S6: the words that the search tests first are in range

@@ -5,11 +5,12 @@ use Prim.Native.Nat.{ℕ, _+_, _≤_}
 use lib.Dec.{eqb}
 use lib.ListN.{getD}
 use Rattle.search.specs.declared.Op.{Op}
-use Rattle.search.specs.declared.Op.the-variants.{Reading, Taking}
+use Rattle.search.specs.declared.Op.the-variants.{Looking, Receiving, Taking}
 
 -- L4: where a row has the pair that the operation goes by
 abbrev pub offset : Op → ℕ
-offset Reading = 1
+offset Looking = 1
+offset Receiving = 1
 offset Taking = 3
 
 -- S6: the count, the partition and the key at that offset are in range

@@ -4,13 +4,14 @@ use mathlib.Core.List.{List, [], _∷_}
 use Prim.Native.Nat.{suc}
 use Rattle.rules.specs.Matching as matching
 use Rattle.search.specs.declared.Op.{Op}
-use Rattle.search.specs.declared.Op.the-variants.{Reading, Taking}
+use Rattle.search.specs.declared.Op.the-variants.{Looking, Receiving, Taking}
 use Rattle.search.specs.declared.Found.{Found}
 use Rattle.search.specs.declared.Found.the-variants.{At, Nothing}
 
--- C3, C4: the code's operations, as those that they stand for
+-- C3, C4, C8: the code's operations, as those that they stand for
 abbrev pub meant : Op → matching.Op
-meant Reading = matching.reading
+meant Looking = matching.looking
+meant Receiving = matching.receiving
 meant Taking = matching.taking
 
 abbrev pub later : Found → Found

@@ -13,9 +13,10 @@ ghost use Rattle.search.specs.Place.{meant, place};
 ghost use Rattle.words.specs.Kind.{plain};
 ghost use Rattle.search.specs.Pairs.{offset, SmallAt, pairAt};
 
-// C3, C4: which pair of an entry the search goes by.
+// C3, C4, C8: what the search is for.
 pub enum Op {
-    Reading,
+    Looking,
+    Receiving,
     Taking,
 }
 
@@ -85,7 +86,8 @@ fn pair_of(op: Op) -> usize
     ensures { λ r. ⌜ r ≡ offset op ⌝ }
 {
     match op {
-        Op::Reading => 1,
+        Op::Looking => 1,
+        Op::Receiving => 1,
         Op::Taking => 3,
     }
 }

@@ -169,7 +169,7 @@ fn reply(space: &mut [u64], number: u64, asked: Call, words: &[u64], out: &mut [
     replies::render_reply(number, answer, &result, out)
 }
 
-// C2 to C4
+// C2 to C4, C8
 fn make(space: &mut [u64], asked: Call, words: &[u64], result: &mut [u64]) -> Answer
     requires { ⌜ (fieldCount asked ≤ length (now words)) × (now result ≡ zeros 8) ⌝ }
     ensures { λ r. ⌜ Made (meant r) (now (space .exit)) (now (result .exit)) (call (now (space .entry)) (meantCall asked (now (words .entry)))) ⌝ }
@@ -181,7 +181,8 @@ fn make(space: &mut [u64], asked: Call, words: &[u64], result: &mut [u64]) -> An
         Call::Seek(op, party, partition, key, n) => {
             let fields = &words[..n];
             match op {
-                Op::Reading => space::read(space, party, partition, key, fields, result),
+                Op::Looking => space::look(space, party, partition, key, fields, result),
+                Op::Receiving => space::receive(space, party, partition, key, fields, result),
                 Op::Taking => space::take(space, party, partition, key, fields, result),
             }
         }

@@ -1,4 +1,4 @@
--- What a read or take comes to: refused, none, or the oldest match with its fields.
+-- What a look, receive or take comes to: refused, none, or the oldest match with its fields.
 use Prim.Native.Nat.{ℕ, zero, suc, _+_, _-_, _*_, _≤_, _<_}
 use mathlib.Core.Path.{_≡_, refl, sym, ap, ap₂, _∙_}
 use mathlib.Core.Logic.{_⊎_, inl, inr}
@@ -17,9 +17,9 @@ use lib.Seq.{drop-drop, take-at}
 use Rattle.rules.specs.Lists.{first}
 use Rattle.rules.specs.Names.{Name, partition, key}
 use Rattle.rules.specs.Fields.{namesIn}
-use Rattle.rules.specs.Matching.{Pair, pair, storedPair, Entry, Op, reading, taking, matches}
+use Rattle.rules.specs.Matching.{Pair, pair, storedPair, Entry, Op, looking, receiving, taking, matches}
 use Rattle.rules.specs.State.{State, give, giveAll, withEntries}
-use Rattle.rules.specs.Calls.{seek, Answer, found, nothing, Table, firstThatApplies, seekTable, remaining}
+use Rattle.rules.specs.Calls.{seek, Answer, found, nothing, Table, firstThatApplies, seekTable, remaining, gained}
 use Rattle.rules.specs.Words.{encode, entryAt, decode, sound, Exit, exit, call, refusals}
 use Rattle.rules.specs.Claims.{Passes}
 use Rattle.rules.proofs.ListLaws.{and-left}
@@ -34,7 +34,8 @@ use Rattle.search.specs.Place.{place}
 use Rattle.search.specs.declared.Found as search
 use Rattle.search.specs.declared.Found.the-variants as search-found
 use Rattle.search.proofs.Places.{PlaceFound, place-found, place-none}
-use Rattle.space.specs.Answers.{answered, atPlace, soughtBy, soughtIn, fieldsAt, delivered}
+use Rattle.space.specs.Answers.{answered, atPlace, soughtBy, soughtIn, fieldsAt, written, granted}
+use Rattle.space.proofs.Passed.{SeekPassed, seek-passed}
 use Rattle.space.specs.declared.Sought.{Sought}
 use Rattle.space.proofs.Sought.{the-type}
 use Rattle.space.specs.declared.Sought.the-variants.{At, Nothing, Refused}
@@ -69,32 +70,53 @@ pub copied : (ws result last : List ℕ) (at k : ℕ) → at + k ≤ length ws
 copied ws result last at k l h =
     let n : length (take k (drop at ws)) ≡ k = simp (length-take, length-drop) (omega arith) in h ∙ rw (add-sub-cancel-left, n)
 
--- the fields in the result, and the names held
-pub delivered-at : (ws result left last : List ℕ) (who r n : ℕ) → length ws ≡ 1809 → r < 128 → n ≤ 8 → last ≡ fieldsAt r n ws ++ drop n result
-    → left ≡ encode (giveAll who (namesIn (take n last)) (decode ws)) → _≡_ {A = List ℕ × List ℕ} (left, last) (delivered (At r) who n ws result)
-delivered-at ws result left last who r n l low few h g =
+-- no entry was found: the tags are those of the cases besides At
+abbrev pub Unfound : Sought → Type 0
+Unfound s = OneOf (1 ∷ 2 ∷ []) (tagOf the-type s)
+
+not-at : {A : Type 0} → _⊎_ (_≡_ {A = ℕ} 0 1) (_≡_ {A = ℕ} 0 2) → A
+not-at (inl q) = absurd (omega arith)
+not-at (inr q) = absurd (omega arith)
+
+pub unfound-granted : (s : Sought) (who n : ℕ) (ws : List ℕ) → Unfound s → ws ≡ granted s who n ws
+unfound-granted (At r) who n ws k = not-at k
+unfound-granted Nothing who n ws k = refl
+unfound-granted (Refused m) who n ws k = refl
+
+-- the names in the result's first words are those in the fields that were copied there
+pub granted-at : (ws result left last : List ℕ) (who r n : ℕ) → length ws ≡ 1809 → r < 128 → n ≤ 8 → last ≡ fieldsAt r n ws ++ drop n result
+    → left ≡ encode (giveAll who (namesIn (take n last)) (decode ws)) → left ≡ granted (At r) who n ws
+granted-at ws result left last who r n l low few h g =
     let front : take n last ≡ fieldsAt r n ws = rw h (take-at (fieldsAt r n ws) (drop n result) n (simp (length-take, length-drop) (omega arith))) in
-    ap₂ (λ (s u : List ℕ). (s, u)) (g ∙ ap (λ (fs : List ℕ). encode (giveAll who (namesIn fs) (decode ws))) front) h
+    g ∙ ap (λ (fs : List ℕ). encode (giveAll who (namesIn fs) (decode ws))) front
 
 module _ (ws : List ℕ) (op : Op) (who : ℕ) (p : Pair ℤ) (t result : List ℕ) where
   record Hit (r : ℕ) : Type 0 where
     pub passes : Passes ws (seek op who p t result)
     pub place : PlaceFound (matches op (storedPair p) t) (decode ws .entries) r
 
-  -- the answer and the words by what was sought, before an entry is removed
-  abbrev ended : Sought → Exit
-  ended s = let d = delivered s who (length t) ws result in exit (answered s (length t)) (d .0) (d .1)
+  -- the answer and the result by what was sought, with the words that the space has then
+  abbrev ended : Sought → List ℕ → Exit
+  ended s left = exit (answered s (length t)) left (written s (length t) ws result)
 
-  -- an answer and words that are those
-  pub ending : (s : Sought) (x : Answer) (d : List ℕ × List ℕ) → x ≡ answered s (length t) → d ≡ delivered s who (length t) ws result
-      → exit x (d .0) (d .1) ≡ ended s
-  ending s x d = ap₂ (λ (x : Answer) (d : List ℕ × List ℕ). exit x (d .0) (d .1))
+  -- an answer and a result that are those
+  pub ending : (s : Sought) (x : Answer) (left last : List ℕ) → x ≡ answered s (length t) → last ≡ written s (length t) ws result
+      → exit x left last ≡ ended s left
+  ending s x left last = ap₂ (λ (x : Answer) (last : List ℕ). exit x left last)
+
+  -- the same where the party gains the names found, before an entry is removed
+  abbrev obtained : Sought → Exit
+  obtained s = ended s (granted s who (length t) ws)
+
+  pub obtaining : (s : Sought) (x : Answer) (left last : List ℕ) → x ≡ answered s (length t) → left ≡ granted s who (length t) ws
+      → last ≡ written s (length t) ws result → exit x left last ≡ obtained s
+  obtaining s x left last a g w = ending s x left last a w ∙ ap (ended s) g
 
   -- by what was sought: the whole call where no entry was found, or what is known of the one found
   abbrev Came : Sought → Type 0
   Came (At r) = Hit r
-  Came Nothing = ended Nothing ≡ call ws (seek op who p t result)
-  Came (Refused n) = ended (Refused n) ≡ call ws (seek op who p t result)
+  Came Nothing = ended Nothing ws ≡ call ws (seek op who p t result)
+  Came (Refused n) = ended (Refused n) ws ≡ call ws (seek op who p t result)
 
   none-came : Passes ws (seek op who p t result) → first (matches op (storedPair p) t) (decode ws .entries) ≡ none
       → call ws (seek op who p t result) ≡ exit nothing ws result
@@ -112,14 +134,10 @@ module _ (ws : List ℕ) (op : Op) (who : ℕ) (p : Pair ℤ) (t result : List �
   unfolding soughtIn
   came s e = rw e (came-by (firstThatApplies (refusals ws (seek op who p t result))) refl (place (matches op (storedPair p) t) (decode ws .entries)) refl)
 
-  -- no entry found; the tags are those of the cases besides At
-  pub unfound-call : (s : Sought) → s ≡ soughtIn ws op who p t (length result) → OneOf (1 ∷ 2 ∷ []) (tagOf the-type s)
-      → ended s ≡ call ws (seek op who p t result)
-  unfound-call (At r) e k = absurd (not-at k)
-    where
-      not-at : _⊎_ (_≡_ {A = ℕ} 0 1) (_≡_ {A = ℕ} 0 2) → ⊥
-      not-at (inl q) = omega arith
-      not-at (inr q) = omega arith
+  -- no entry found
+  pub unfound-call : (s : Sought) → s ≡ soughtIn ws op who p t (length result) → Unfound s
+      → obtained s ≡ call ws (seek op who p t result)
+  unfound-call (At r) e k = not-at k
   unfound-call Nothing e k = came Nothing e
   unfound-call (Refused n) e k = came (Refused n) e
 
@@ -151,21 +169,41 @@ module _ (ws : List ℕ) (op : Op) (who : ℕ) (p : Pair ℤ) (t result : List �
     hit-call :
         call ws (seek op who p t result)
         ≡ exit (found (length t))
-        (encode (giveAll who (namesIn (fieldsAt r (length t) ws))
+        (encode (giveAll who (gained op (h .place .entry))
         (withEntries (remaining op (matches op (storedPair p) t) (decode ws .entries)) (decode ws))))
-        (fieldsAt r (length t) ws ++ drop (length t) result)
-    hit-call = passes-call ws (seek op who p t result) (h .passes) ∙ rw (h .place .found, fields-are, ← count-is) refl
+        (h .place .entry .fields ++ drop (length t) result)
+    hit-call = passes-call ws (seek op who p t result) (h .passes) ∙ rw (h .place .found, ← count-is) refl
 
-  -- the row found is one of the 128
-  pub found-low : (r : ℕ) → At r ≡ soughtIn ws op who p t (length result) → r < 128
-  found-low r e = let h = came (At r) e in omega (arith, below r h, sound-facts ws (passes-sound ws (seek op who p t result) (h .passes)) .count)
+  module _ (r : ℕ) (e : At r ≡ soughtIn ws op who p t (length result)) where
+    -- the row found is one of the 128
+    pub found-low : r < 128
+    found-low = let h = came (At r) e in omega (arith, below r h, sound-facts ws (passes-sound ws (seek op who p t result) (h .passes)) .count)
 
--- a read ends with the search
-pub read-call : (ws : List ℕ) (who : ℕ) (p : Pair ℤ) (t result : List ℕ) (s : Sought) → s ≡ soughtIn ws reading who p t (length result)
-    → ended ws reading who p t result s ≡ call ws (seek reading who p t result)
-read-call ws who p t result (At r) e = sym (hit-call ws reading who p t result r (came ws reading who p t result (At r) e))
-read-call ws who p t result Nothing e = came ws reading who p t result Nothing e
-read-call ws who p t result (Refused n) e = came ws reading who p t result (Refused n) e
+    -- a call that finds has passed its tests
+    pub found-passed : SeekPassed ws who p t (length result)
+    found-passed = seek-passed ws who p t (length result) (came (At r) e .passes)
+
+module _ (ws : List ℕ) (who : ℕ) (p : Pair ℤ) (t result : List ℕ) where
+  -- a look ends with the search
+  pub look-call : (s : Sought) → s ≡ soughtIn ws looking who p t (length result)
+      → ended ws looking who p t result s ws ≡ call ws (seek looking who p t result)
+  look-call (At r) e =
+      let h = came ws looking who p t result (At r) e in
+      rw (fields-are ws looking who p t result r h)
+      (ap (λ (left : List ℕ). exit (found (length t)) left (h .place .entry .fields ++ drop (length t) result))
+      (sym (encode-decode ws (passes-sound ws (seek looking who p t result) (h .passes))))
+      ∙ sym (hit-call ws looking who p t result r h))
+  look-call Nothing e = came ws looking who p t result Nothing e
+  look-call (Refused n) e = came ws looking who p t result (Refused n) e
+
+  -- a receive ends with the names gained
+  pub receive-call : (s : Sought) → s ≡ soughtIn ws receiving who p t (length result)
+      → obtained ws receiving who p t result s ≡ call ws (seek receiving who p t result)
+  receive-call (At r) e =
+      let h = came ws receiving who p t result (At r) e in
+      rw (fields-are ws receiving who p t result r h) (sym (hit-call ws receiving who p t result r h))
+  receive-call Nothing e = came ws receiving who p t result Nothing e
+  receive-call (Refused n) e = came ws receiving who p t result (Refused n) e
 
 -- the entries changed after a gift of names, or before it
 give-with : (who : ℕ) (n : Name) (es : List Entry) (s : State) → withEntries es (give who n s) ≡ give who n (withEntries es s)
@@ -177,7 +215,7 @@ giveAll-with : (who : ℕ) (ns : List Name) (es : List Entry) (s : State) → wi
 giveAll-with who [] es s = refl
 giveAll-with who (n ∷ ns) es s = giveAll-with who ns es (give who n s) ∙ ap (giveAll who ns) (give-with who n es s)
 
--- a take: the row found is removed from the words that the search left
+-- a take: the row found is removed from the words in which the names are gained
 module _ (ws : List ℕ) (who : ℕ) (p : Pair ℤ) (t result : List ℕ) where
   pub record Removable (r : ℕ) (left last : List ℕ) : Type 0 where
     pub isSound : sound left ≡ true
@@ -186,9 +224,9 @@ module _ (ws : List ℕ) (who : ℕ) (p : Pair ℤ) (t result : List ℕ) where
         exit (found (length t)) (encode (withEntries (take r (decode left .entries) ++ drop (suc r) (decode left .entries)) (decode left))) last
         ≡ call ws (seek taking who p t result)
 
-  pub removable : (s : Sought) (r : ℕ) (d : List ℕ × List ℕ) → s ≡ soughtIn ws taking who p t (length result)
-      → d ≡ delivered s who (length t) ws result → s ≡ At r → Removable r (d .0) (d .1)
-  removable s r d e g q = rw (g, q) (go (came ws taking who p t result (At r) (sym q ∙ e)))
+  pub removable : (s : Sought) (r : ℕ) (left last : List ℕ) → s ≡ soughtIn ws taking who p t (length result)
+      → left ≡ granted s who (length t) ws → last ≡ written s (length t) ws result → s ≡ At r → Removable r left last
+  removable s r left last e g w q = rw (g, w, q) (go (came ws taking who p t result (At r) (sym q ∙ e)))
     where
       names : List Name
       names = namesIn (fieldsAt r (length t) ws)
@@ -206,5 +244,5 @@ module _ (ws : List ℕ) (who : ℕ) (p : Pair ℤ) (t result : List ℕ) where
           record {
             isSound = sound-encode gifted w (few-rows gifted w);
             below = omega (arith, h .place .below, decode-len (encode gifted));
-            removed = rw (same, entries, giveAll-with, ← (h .place .removed)) (sym (hit-call ws taking who p t result r h));
+            removed = rw (same, entries, giveAll-with, ← (h .place .removed), fields-are ws taking who p t result r h) (sym (hit-call ws taking who p t result r h));
           }

@@ -58,9 +58,14 @@ soughtIn ws op who p t room =
 abbrev pub fieldsAt : ℕ → ℕ → List ℕ → List ℕ
 fieldsAt r n ws = take n (drop (23 + 14 * r) ws)
 
--- C3: space and result once an entry was sought: its fields come first in the result and the party holds the names in them, or no word changes
-abbrev pub delivered : Sought → ℕ → ℕ → List ℕ → List ℕ → List ℕ × List ℕ
-delivered (At r) who n ws result =
-    (encode (giveAll who (namesIn (fieldsAt r n ws)) (decode ws)), fieldsAt r n ws ++ drop n result)
-delivered Nothing who n ws result = (ws, result)
-delivered (sought.Refused k) who n ws result = (ws, result)
+-- C3, C8: the result once an entry was sought: the fields of the one found come first, or no word changes
+abbrev pub written : Sought → ℕ → List ℕ → List ℕ → List ℕ
+written (At r) n ws result = fieldsAt r n ws ++ drop n result
+written Nothing n ws result = result
+written (sought.Refused k) n ws result = result
+
+-- C3, C4: the space once the party holds the names in the fields of the entry found, before that is removed; or no word changes
+abbrev pub granted : Sought → ℕ → ℕ → List ℕ → List ℕ
+granted (At r) who n ws = encode (giveAll who (namesIn (fieldsAt r n ws)) (decode ws))
+granted Nothing who n ws = ws
+granted (sought.Refused k) who n ws = ws

@@ -1,4 +1,4 @@
-// The four calls of the space: open, put, read and take.
+// The five calls of the space: open, put, look, receive and take.
 use refusals::Admission;
 use refusals::Verdict;
 use search::Found;
@@ -7,11 +7,11 @@ ghost use mathlib.Core.Path.{_≡_};
 ghost use mathlib.Core.List.{[], _++_};
 ghost use Prim.Native.Nat.{_<_, _≤_};
 ghost use lib.ListN.{length, drop};
-ghost use Rattle.rules.specs.Matching.{pair, reading, taking};
+ghost use Rattle.rules.specs.Matching.{pair, looking, receiving, taking};
 ghost use Rattle.rules.specs.Calls.{put, seek};
 ghost use Rattle.rules.specs.Words.{exit, call, opening};
 ghost use Rattle.search.specs.Place as place;
-ghost use Rattle.space.specs.Answers.{meant, answered, soughtIn, fieldsAt, delivered};
+ghost use Rattle.space.specs.Answers.{meant, answered, soughtIn, fieldsAt, written, granted};
 
 // C5: what a call answers.
 pub enum Answer {
@@ -21,7 +21,7 @@ pub enum Answer {
     Refused(u32),
 }
 
-// What a read or take finds: the place of the oldest match, none, or a refusal.
+// What a look, receive or take finds: the place of the oldest match, none, or a refusal.
 enum Sought {
     At(usize),
     Nothing,
@@ -72,8 +72,23 @@ pub fn put(
     Answer::Done
 }
 
+// C8: the space is lent for reading only, so no word of it changes.
+pub fn look(
+    space: &[u64],
+    party: u32,
+    partition: u32,
+    key: i32,
+    fields: &[u64],
+    result: &mut [u64],
+) -> Answer
+    ensures { λ r. ⌜ exit (meant r) (now (space .entry)) (now (result .exit)) ≡ call (now (space .entry)) (seek looking party (pair partition key) (now (fields .entry)) (now (result .entry))) ⌝ }
+{
+    let found = seek(space, Op::Looking, party, partition, key, fields, result);
+    answer_of(found, fields.len())
+}
+
 // C3
-pub fn read(
+pub fn receive(
     space: &mut [u64],
     party: u32,
     partition: u32,
@@ -81,9 +96,9 @@ pub fn read(
     fields: &[u64],
     result: &mut [u64],
 ) -> Answer
-    ensures { λ r. ⌜ exit (meant r) (now (space .exit)) (now (result .exit)) ≡ call (now (space .entry)) (seek reading party (pair partition key) (now (fields .entry)) (now (result .entry))) ⌝ }
+    ensures { λ r. ⌜ exit (meant r) (now (space .exit)) (now (result .exit)) ≡ call (now (space .entry)) (seek receiving party (pair partition key) (now (fields .entry)) (now (result .entry))) ⌝ }
 {
-    let found = seek(space, Op::Reading, party, partition, key, fields, result);
+    let found = obtain(space, Op::Receiving, party, partition, key, fields, result);
     answer_of(found, fields.len())
 }
 
@@ -99,7 +114,7 @@ pub fn take(
     ensures { λ r. ⌜ exit (meant r) (now (space .exit)) (now (result .exit)) ≡ call (now (space .entry)) (seek taking party (pair partition key) (now (fields .entry)) (now (result .entry))) ⌝ }
 {
     let n = fields.len();
-    let found = seek(space, Op::Taking, party, partition, key, fields, result);
+    let found = obtain(space, Op::Taking, party, partition, key, fields, result);
     let Sought::At(row) = found else {
         return answer_of(found, n);
     };
@@ -107,9 +122,8 @@ pub fn take(
     Answer::Found(n)
 }
 
-// R1 to R7, M5, C3: what read and take have in common: the oldest match is sought, its fields are copied out, and the party
-// holds the names in them.
-fn seek(
+// C3, C4: what receive and take have in common: where an entry is found, the party holds the names in its fields.
+fn obtain(
     space: &mut [u64],
     op: Op,
     party: u32,
@@ -119,26 +133,48 @@ fn seek(
     result: &mut [u64],
 ) -> Sought
     ensures { λ r. ⌜ r ≡ soughtIn (now (space .entry)) (place.meant op) party (pair partition key) (now (fields .entry)) (length (now (result .entry))) ⌝ }
-    ensures { λ r. ⌜ (now (space .exit), now (result .exit)) ≡ delivered r party (length (now (fields .entry))) (now (space .entry)) (now (result .entry)) ⌝ }
+    ensures { λ r. ⌜ now (space .exit) ≡ granted r party (length (now (fields .entry))) (now (space .entry)) ⌝ }
+    ensures { λ r. ⌜ now (result .exit) ≡ written r (length (now (fields .entry))) (now (space .entry)) (now (result .entry)) ⌝ }
 {
-    // a part of its own: passed on whole, a slice is read byte by byte on the board's smaller core
+    let n = fields.len();
+    let found = seek(space, op, party, partition, key, fields, result);
+    let Sought::At(row) = found else {
+        return found;
+    };
+    holdings::hold_names(space, party as usize, &result[..n]);
+    Sought::At(row)
+}
+
+// R1 to R7, M5: what all three have in common: the oldest match is sought, and its fields are copied out.
+fn seek(
+    space: &[u64],
+    op: Op,
+    party: u32,
+    partition: u32,
+    key: i32,
+    fields: &[u64],
+    result: &mut [u64],
+) -> Sought
+    ensures { λ r. ⌜ r ≡ soughtIn (now (space .entry)) (place.meant op) party (pair partition key) (now (fields .entry)) (length (now (result .entry))) ⌝ }
+    ensures { λ r. ⌜ now (result .exit) ≡ written r (length (now (fields .entry))) (now (space .entry)) (now (result .entry)) ⌝ }
+{
+    // parts of their own: passed on whole, a slice is read byte by byte on the board's smaller core
     let template = &fields[0..];
-    let admission = refusals::of_seek(space, party, partition, key, template, result.len());
+    let shared = &space[0..];
+    let admission = refusals::of_seek(shared, party, partition, key, template, result.len());
     if let Admission::Refused(number) = admission {
         return Sought::Refused(number);
     }
     let bounded = refusals::has_bounds(admission);
     let cokey = words::stored_co_key(key);
-    let Found::At(row) = search::search(space, op, partition, cokey, template, bounded) else {
+    let Found::At(row) = search::search(shared, op, partition, cokey, template, bounded) else {
         return Sought::Nothing;
     };
-    let n = fields.len();
-    copy_out(space, row, n, result);
-    holdings::hold_names(space, party as usize, &result[..n]);
+    copy_out(shared, row, fields.len(), result);
     Sought::At(row)
 }
 
-// C5: the answer of a read or take.
+// C5: the answer of a look, receive or take.
 fn answer_of(found: Sought, n: usize) -> Answer
     ensures { λ r. ⌜ meant r ≡ answered found n ⌝ }
 {
@@ -149,7 +185,7 @@ fn answer_of(found: Sought, n: usize) -> Answer
     }
 }
 
-// C3: the row's first n field words come first in the result, and the rest of it is kept.
+// C3, C8: the row's first n field words come first in the result, and the rest of it is kept.
 fn copy_out(space: &[u64], row: usize, n: usize, result: &mut [u64])
     requires { ⌜ (length (now space) ≡ 1809) × (row < 128) × (n ≤ 8) × (n ≤ length (now result)) ⌝ }
     ensures { λ _. ⌜ now (result .exit) ≡ fieldsAt row n (now (space .entry)) ++ drop n (now (result .entry)) ⌝ }

@@ -22,7 +22,7 @@ module _ (a : Answer) (ws result : List ℕ) (x : Exit) (e : exit (meant a) ws r
         words = ap (λ (y : Exit). y .result) e;
       }
 
--- a read or take, whose key j is the key k read back from its bits
+-- a look, receive or take, whose key j is the key k read back from its bits
 pub left-seek : (a : Answer) (ws result : List ℕ) (space : List ℕ) (op : Op) (who p : ℕ) (j k : ℤ) (t lent : List ℕ) → j ≡ k
     → exit (meant a) ws result ≡ call space (seek op who (pair p j) t lent)
     → (r : ℕ) → r ≡ codeOf (meant a) → Left r ws result (call space (seek op who (pair p k) t lent))

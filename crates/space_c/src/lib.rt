@@ -1,9 +1,9 @@
-// The four calls, and the reading of a roster, for programs in C, exported as include/space.h declares them.
+// The five calls, and the reading of a roster, for programs in C, exported as include/space.h declares them.
 use roster_file::Reading;
 use space::Answer;
 ghost use mathlib.Core.Path.{_≡_};
 ghost use mathlib.Core.List.{[]};
-ghost use Rattle.rules.specs.Matching.{pair, reading, taking};
+ghost use Rattle.rules.specs.Matching.{pair, looking, receiving, taking};
 ghost use Rattle.rules.specs.Calls.{put, seek};
 ghost use Rattle.rules.specs.Words.{call, opening};
 ghost use Rattle.space.specs.Answers.{meant, Small};
@@ -33,9 +33,24 @@ pub extern "C" fn space_put(
     code(space::put(space, party, rpart, rkey, tpart, tkey, fields))
 }
 
+// C8
+#[no_mangle]
+pub extern "C" fn space_look(
+    space: &[u64],
+    party: u32,
+    partition: u32,
+    key: i32,
+    fields: &[u64],
+    result: &mut [u64],
+) -> u32
+    ensures { λ r. ⌜ Left r (now (space .entry)) (now (result .exit)) (call (now (space .entry)) (seek looking party (pair partition key) (now (fields .entry)) (now (result .entry)))) ⌝ }
+{
+    code(space::look(space, party, partition, key, fields, result))
+}
+
 // C3
 #[no_mangle]
-pub extern "C" fn space_read(
+pub extern "C" fn space_receive(
     space: &mut [u64],
     party: u32,
     partition: u32,
@@ -43,9 +58,9 @@ pub extern "C" fn space_read(
     fields: &[u64],
     result: &mut [u64],
 ) -> u32
-    ensures { λ r. ⌜ Left r (now (space .exit)) (now (result .exit)) (call (now (space .entry)) (seek reading party (pair partition key) (now (fields .entry)) (now (result .entry)))) ⌝ }
+    ensures { λ r. ⌜ Left r (now (space .exit)) (now (result .exit)) (call (now (space .entry)) (seek receiving party (pair partition key) (now (fields .entry)) (now (result .entry)))) ⌝ }
 {
-    code(space::read(space, party, partition, key, fields, result))
+    code(space::receive(space, party, partition, key, fields, result))
 }
 
 // C4

@@ -1,11 +1,11 @@
 //! What came of the calls with bounds, told apart by the kind of the bound.
 
-use crate::call::{is_refusal, Call, Kind, Query};
+use crate::call::{is_refusal, Call, Query};
 use reference::names::{may_be_put, stored_key};
 use reference::table::{
     row_fields, FIELD_COUNT, READ_KEY, READ_PARTITION, ROW_WORDS, TAKE_KEY, TAKE_PARTITION,
 };
-use reference::{co_key, Field};
+use reference::{co_key, Field, Operation};
 
 /// What is counted, for at least and for at most.
 type Both = [&'static str; 2];
@@ -62,21 +62,20 @@ fn bound(word: u64) -> Option<(usize, u32)> {
     }
 }
 
-/// Whether a read or a take has a bound in its template.
+/// Whether a look, a receive or a take has a bound in its template.
 pub fn is_bounded(call: &Call) -> bool {
-    matches!(call.kind(), Kind::Read | Kind::Take)
-        && call.input().iter().any(|word| bound(*word).is_some())
+    matches!(call, Call::Find(_, query) if query.fields.iter().any(|word| bound(*word).is_some()))
 }
 
 /// What happened in a call that got this answer and this result, with the live rows before it.
 pub fn happenings(call: &Call, code: u32, result: &[u64], rows: &[u64]) -> Vec<&'static str> {
     let mut all = match call {
         Call::Put { fields, .. } if code == 105 => refused(fields),
-        Call::Read(query) | Call::Take(query) if !is_refusal(code) => {
+        Call::Find(operation, query) if !is_refusal(code) => {
             let mut all = searched(&query.fields, code, result);
             if is_bounded(call) {
                 let rows = rows.chunks_exact(ROW_WORDS);
-                all.extend(rows.flat_map(|row| missed(call.kind(), query, row)));
+                all.extend(rows.flat_map(|row| missed(*operation, query, row)));
             }
             all
         }
@@ -123,10 +122,10 @@ fn searched(fields: &[u64], code: u32, result: &[u64]) -> Vec<&'static str> {
 }
 
 /// Why a row isn't found, if one place with a bound is all that keeps it from a match.
-fn missed(op: Kind, query: &Query, row: &[u64]) -> Vec<&'static str> {
-    let pair = match op {
-        Kind::Take => (row[TAKE_PARTITION], row[TAKE_KEY]),
-        _ => (row[READ_PARTITION], row[READ_KEY]),
+fn missed(operation: Operation, query: &Query, row: &[u64]) -> Vec<&'static str> {
+    let pair = match operation {
+        Operation::Take => (row[TAKE_PARTITION], row[TAKE_KEY]),
+        Operation::Look | Operation::Receive => (row[READ_PARTITION], row[READ_KEY]),
     };
     let key = stored_key(co_key(query.pair.key));
     if pair != (query.pair.partition.into(), key) || row[FIELD_COUNT] != query.fields.len() as u64 {

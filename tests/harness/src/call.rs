@@ -4,16 +4,29 @@ use crate::space::Space;
 use reference::{Operation, Pair};
 
 /// The kinds of calls.
-#[derive(Clone, Copy, Debug, PartialEq, Eq)]
+#[derive(Clone, Copy, Debug, PartialEq, Eq, PartialOrd, Ord)]
 pub enum Kind {
     Open,
     Put,
-    Read,
-    Take,
+    Find(Operation),
 }
 
 impl Kind {
-    pub const ALL: [Kind; 4] = [Kind::Open, Kind::Put, Kind::Read, Kind::Take];
+    pub const LOOK: Kind = Kind::Find(Operation::Look);
+    pub const RECEIVE: Kind = Kind::Find(Operation::Receive);
+    pub const TAKE: Kind = Kind::Find(Operation::Take);
+    pub const ALL: [Kind; 5] = [Kind::Open, Kind::Put, Kind::LOOK, Kind::RECEIVE, Kind::TAKE];
+
+    /// The word for it, also in the console's lines.
+    pub fn word(self) -> &'static str {
+        match self {
+            Kind::Open => "open",
+            Kind::Put => "put",
+            Kind::Find(Operation::Look) => "look",
+            Kind::Find(Operation::Receive) => "receive",
+            Kind::Find(Operation::Take) => "take",
+        }
+    }
 }
 
 /// A call with its arguments. What the result words held before is no part of it.
@@ -28,11 +41,10 @@ pub enum Call {
         take: Pair,
         fields: Vec<u64>,
     },
-    Read(Query),
-    Take(Query),
+    Find(Operation, Query),
 }
 
-/// What a read and a take name alike.
+/// What a look, a receive and a take name alike.
 #[derive(Clone, Debug, PartialEq, Eq)]
 pub struct Query {
     pub party: u32,
@@ -43,7 +55,7 @@ pub struct Query {
 
 impl Query {
     /// As the calls take it, with the fields at that place.
-    fn of<'a>(&self, fields: &'a [u64]) -> reference::Query<'a> {
+    pub fn of<'a>(&self, fields: &'a [u64]) -> reference::Query<'a> {
         reference::Query {
             party: self.party,
             pair: self.pair,
@@ -57,8 +69,7 @@ impl Call {
         match self {
             Call::Open { .. } => Kind::Open,
             Call::Put { .. } => Kind::Put,
-            Call::Read(_) => Kind::Read,
-            Call::Take(_) => Kind::Take,
+            Call::Find(operation, _) => Kind::Find(*operation),
         }
     }
 
@@ -67,7 +78,7 @@ impl Call {
         match self {
             Call::Open { .. } => None,
             Call::Put { party, .. } => Some(*party),
-            Call::Read(query) | Call::Take(query) => Some(query.party),
+            Call::Find(_, query) => Some(query.party),
         }
     }
 
@@ -76,7 +87,7 @@ impl Call {
         match self {
             Call::Open { roster } => roster,
             Call::Put { fields, .. } => fields,
-            Call::Read(query) | Call::Take(query) => &query.fields,
+            Call::Find(_, query) => &query.fields,
         }
     }
 
@@ -84,7 +95,7 @@ impl Call {
     pub fn result_len(&self) -> usize {
         match self {
             Call::Open { .. } | Call::Put { .. } => 0,
-            Call::Read(query) | Call::Take(query) => query.result_len,
+            Call::Find(_, query) => query.result_len,
         }
     }
 
@@ -101,8 +112,7 @@ impl Call {
             Call::Put {
                 party, read, take, ..
             } => system.put(space, *party, *read, *take, input),
-            Call::Read(query) => system.find(Operation::Read, space, query.of(input), result),
-            Call::Take(query) => system.find(Operation::Take, space, query.of(input), result),
+            Call::Find(operation, query) => system.find(*operation, space, query.of(input), result),
         }
     }
 }
@@ -112,9 +122,17 @@ pub fn answer_text(kind: Kind, code: u32) -> String {
     match (kind, code) {
         (Kind::Open | Kind::Put, 0) => "done".to_string(),
         (_, 0) => "none".to_string(),
-        (Kind::Read | Kind::Take, 1..=8) => format!("found {code}"),
+        (Kind::Find(_), 1..=8) => format!("found {code}"),
         (_, 101..=109) => format!("refusal {}", code - 100),
         _ => format!("unknown answer {code}"),
+    }
+}
+
+/// As many result words as an answer "found" counts; other answers have none.
+pub fn found_fields(kind: Kind, code: u32, result: &[u64]) -> &[u64] {
+    match kind {
+        Kind::Find(_) if code as usize <= result.len() => &result[..code as usize],
+        _ => &[],
     }
 }
 

@@ -1,10 +1,10 @@
-//! The rules' cases, the examples of their refusals and a case of bounds, with answers and words
-//! written by hand.
+//! The rules' cases, the examples of their refusals, a case of looks and one of bounds, with
+//! answers and words written by hand.
 
-use crate::call::{answer_text, Call, Query};
+use crate::call::{answer_text, Call, Kind, Query};
 use crate::report::Report;
 use crate::space::Space;
-use reference::Pair;
+use reference::{Operation, Pair};
 
 const WILDCARD: u64 = 12_884_901_888;
 const PARTITION_5: u64 = 4_294_967_301;
@@ -38,12 +38,25 @@ fn query(party: u32, pair: Pair, fields: &[u64]) -> Query {
     }
 }
 
-fn read(party: u32, pair: Pair, fields: &[u64]) -> Call {
-    Call::Read(query(party, pair, fields))
+fn look(party: u32, pair: Pair, fields: &[u64]) -> Call {
+    Call::Find(Operation::Look, query(party, pair, fields))
+}
+
+fn receive(party: u32, pair: Pair, fields: &[u64]) -> Call {
+    Call::Find(Operation::Receive, query(party, pair, fields))
 }
 
 fn take(party: u32, pair: Pair, fields: &[u64]) -> Call {
-    Call::Take(query(party, pair, fields))
+    Call::Find(Operation::Take, query(party, pair, fields))
+}
+
+/// A call with less room for the result than its two fields need.
+fn with_short_result(operation: Operation) -> Call {
+    let query = Query {
+        result_len: 1,
+        ..query(0, pair(0, 0), &[1, 2])
+    };
+    Call::Find(operation, query)
 }
 
 /// A call, its answer and the fields it finds.
@@ -66,19 +79,15 @@ fn cases() -> Vec<(&'static str, Vec<Step>)> {
         finds(take(1, pair(5, -4), &[1]), &[1]),
         step(put(0, pair(5, 4), &[1]), 0),
     ];
-    let short_result = Call::Read(Query {
-        result_len: 1,
-        ..query(0, pair(0, 0), &[1, 2])
-    });
     vec![
         (
             "a to e",
             vec![
                 step(put(0, pair(5, 4), &[7, 120]), 0),
-                finds(read(1, pair(5, -4), &[7, WILDCARD]), &[7, 120]),
+                finds(receive(1, pair(5, -4), &[7, WILDCARD]), &[7, 120]),
                 step(take(0, pair(5, -4), &all), REFUSED + 7),
                 finds(take(1, pair(5, -4), &all), &[7, 120]),
-                step(read(1, pair(5, -4), &all), 0),
+                step(receive(1, pair(5, -4), &all), 0),
             ],
         ),
         (
@@ -95,7 +104,7 @@ fn cases() -> Vec<(&'static str, Vec<Step>)> {
             vec![
                 step(put(0, pair(0, 0), &[PARTITION_5, KEY_4]), 0),
                 step(put(2, pair(5, 4), &[1]), REFUSED + 7),
-                finds(read(2, pair(0, 0), &all), &[PARTITION_5, KEY_4]),
+                finds(receive(2, pair(0, 0), &all), &[PARTITION_5, KEY_4]),
                 step(put(2, pair(5, 4), &[1]), 0),
                 step(put(2, pair(5, -4), &[1]), REFUSED + 7),
             ],
@@ -108,8 +117,8 @@ fn cases() -> Vec<(&'static str, Vec<Step>)> {
                 step(put(0, pair(0, 0), &[1; 9]), REFUSED + 3),
                 step(put(0, pair(0, -32), &[1]), REFUSED + 4),
                 step(put(0, pair(0, 0), &[WILDCARD]), REFUSED + 5),
-                step(short_result, REFUSED + 6),
-                step(read(0, pair(5, -4), &[1]), REFUSED + 7),
+                step(with_short_result(Operation::Receive), REFUSED + 6),
+                step(receive(0, pair(5, -4), &[1]), REFUSED + 7),
                 step(
                     Call::Open {
                         roster: vec![0; 15],
@@ -121,11 +130,55 @@ fn cases() -> Vec<(&'static str, Vec<Step>)> {
     ]
 }
 
+/// What looks find, and that they give no name, from the same opening.
+fn looks() -> Vec<Step> {
+    let defaults = pair(0, 0);
+    let names = [PARTITION_5, KEY_4];
+    let all = [WILDCARD, WILDCARD];
+    let by_two_pairs = Call::Put {
+        party: 0,
+        read: pair(5, 4),
+        take: defaults,
+        fields: vec![1],
+    };
+    vec![
+        step(look(2, defaults, &all), 0),
+        step(put(0, defaults, &names), 0),
+        step(put(0, defaults, &[7, 120]), 0),
+        finds(look(2, defaults, &all), &names),
+        finds(look(2, defaults, &[7, WILDCARD]), &[7, 120]),
+        step(put(2, pair(5, 0), &[1]), REFUSED + 7),
+        step(put(2, pair(0, 4), &[1]), REFUSED + 7),
+        step(look(2, defaults, &names), REFUSED + 7),
+        finds(receive(2, defaults, &all), &names),
+        step(put(2, pair(5, 4), &[1]), 0),
+        finds(look(2, defaults, &names), &names),
+        finds(take(1, defaults, &all), &names),
+        finds(look(2, defaults, &all), &[7, 120]),
+        finds(take(1, pair(5, -4), &[1]), &[1]),
+        // Looks and receives go by the read pair, only takes by the other.
+        step(by_two_pairs, 0),
+        finds(look(1, pair(5, -4), &[1]), &[1]),
+        step(look(1, defaults, &[1]), 0),
+        finds(receive(1, pair(5, -4), &[1]), &[1]),
+        step(receive(1, defaults, &[1]), 0),
+        step(take(1, pair(5, -4), &[1]), 0),
+        finds(take(1, defaults, &[1]), &[1]),
+        step(look(1, pair(5, -4), &[1]), 0),
+        step(look(8, pair(64, 0), &[]), REFUSED + 2),
+        step(look(0, pair(64, 0), &[1; 9]), REFUSED + 3),
+        step(look(0, pair(0, -32), &[KIND_6]), REFUSED + 4),
+        step(look(0, pair(5, -4), &[KIND_6]), REFUSED + 5),
+        step(with_short_result(Operation::Look), REFUSED + 6),
+        step(look(0, pair(5, -4), &[1]), REFUSED + 7),
+    ]
+}
+
 /// Picks by bounds, from the same opening: entries of messages, then entries of names.
 fn bounds() -> Vec<Step> {
     let there = pair(5, -4);
-    let pick = |words: &[u64], fields: &[u64]| finds(read(1, there, words), fields);
-    let miss = |words: &[u64]| step(read(1, there, words), 0);
+    let pick = |words: &[u64], fields: &[u64]| finds(look(1, there, words), fields);
+    let miss = |words: &[u64]| step(receive(1, there, words), 0);
     vec![
         step(put(0, pair(5, 4), &[7, 100]), 0),
         step(put(0, pair(5, 4), &[7, 200]), 0),
@@ -143,16 +196,16 @@ fn bounds() -> Vec<Step> {
         pick(&[7, AT_LEAST + 101], &[7, LAST_MESSAGE]),
         step(put(0, pair(5, 4), &[7, AT_LEAST + 7]), REFUSED + 5),
         step(put(0, pair(5, 4), &[AT_MOST + 7, 7]), REFUSED + 5),
-        step(read(1, there, &[7, KIND_6]), REFUSED + 5),
+        step(receive(1, there, &[7, KIND_6]), REFUSED + 5),
         step(put(0, pair(0, 0), &[PARTITION_5]), 0),
         step(put(0, pair(0, 0), &[KEY_4]), 0),
-        step(read(1, pair(0, 0), &[AT_LEAST]), 0),
+        step(receive(1, pair(0, 0), &[AT_LEAST]), 0),
         step(take(1, pair(0, 0), &[AT_MOST + LAST_MESSAGE]), 0),
         finds(take(1, pair(0, 0), &[WILDCARD]), &[PARTITION_5]),
         finds(take(1, pair(0, 0), &[WILDCARD]), &[KEY_4]),
         // Nobody has to hold anything for a bound: party 2 doesn't hold partition 5.
-        step(read(2, pair(0, 0), &[AT_MOST + 5]), 0),
-        step(read(2, pair(0, 0), &[AT_LEAST + 5]), 0),
+        step(look(2, pair(0, 0), &[AT_MOST + 5]), 0),
+        step(receive(2, pair(0, 0), &[AT_LEAST + 5]), 0),
     ]
 }
 
@@ -171,6 +224,7 @@ fn opening(system: &mut dyn Space) -> Vec<u64> {
 fn run_case(system: &mut dyn Space, steps: &[Step]) -> Result<String, String> {
     let mut space = opening(system);
     for (call, answer, fields) in steps {
+        let before = space.clone();
         let mut result = vec![99; call.result_len()];
         let got = call.make(system, &mut space, call.input(), &mut result);
         let mut expected = vec![99; call.result_len()];
@@ -184,13 +238,17 @@ fn run_case(system: &mut dyn Space, steps: &[Step]) -> Result<String, String> {
                 "{call:?}: {got} {result:?}, due is {due} {expected:?}"
             ));
         }
+        if call.kind() == Kind::LOOK && space != before {
+            return Err(format!("{call:?}: the space has changed"));
+        }
     }
     Ok(format!("calls as due: {}", steps.len()))
 }
 
 /// Runs each case.
 pub fn check(report: &mut Report, who: &str, system: &mut dyn Space) {
-    for (name, steps) in cases().into_iter().chain([("of bounds", bounds())]) {
+    let of_ours = [("of looks", looks()), ("of bounds", bounds())];
+    for (name, steps) in cases().into_iter().chain(of_ours) {
         let outcome = run_case(system, &steps);
         report.check(&format!("case {name}, {who}"), outcome);
     }

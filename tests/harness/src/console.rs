@@ -5,6 +5,7 @@ use crate::report::Report;
 use crate::rng::Rng;
 use crate::scripts;
 use reference::console::INPUT_NAMES;
+use reference::{console_with, ConsoleVariant};
 use std::collections::BTreeMap;
 
 const SEED: u64 = 6_001;
@@ -44,6 +45,33 @@ const BOUND_SAYINGS: [&str; 8] = [
     "l unreadable",
 ];
 
+/// What can be said of a line by its word, and because of it if the line is unreadable. Each must
+/// come up as well.
+const WORD_SAYINGS: [&str; 22] = [
+    "look found",
+    "look none",
+    "look no2",
+    "look no3",
+    "look no4",
+    "look no5",
+    "look no7",
+    "receive found",
+    "receive none",
+    "receive no2",
+    "receive no3",
+    "receive no4",
+    "receive no5",
+    "receive no7",
+    "take found",
+    "take none",
+    "take no2",
+    "take no3",
+    "take no4",
+    "take no5",
+    "take no7",
+    "read unreadable",
+];
+
 /// Inputs of one make.
 struct Sort {
     name: &'static str,
@@ -51,7 +79,13 @@ struct Sort {
     make: fn(&mut Rng, u64) -> Vec<u8>,
 }
 
-const SORTS: [Sort; 11] = [
+impl Sort {
+    fn input(&self, seed: u64, number: u64) -> Vec<u8> {
+        (self.make)(&mut Rng::new(seed, number), number)
+    }
+}
+
+const SORTS: [Sort; 12] = [
     Sort {
         name: "readable inputs",
         inputs: 600,
@@ -117,6 +151,15 @@ const SORTS: [Sort; 11] = [
         },
     },
     Sort {
+        name: "read for another word",
+        inputs: 400,
+        make: |rng, _| {
+            let mut input = scripts::readable(rng);
+            scripts::break_word(rng, &mut input);
+            input
+        },
+    },
+    Sort {
         name: "noise",
         inputs: 200,
         make: |rng, _| scripts::noise(rng),
@@ -170,6 +213,7 @@ pub fn compare(report: &mut Report, program: &str) {
     let missing: Vec<&str> = SAYINGS
         .into_iter()
         .chain(BOUND_SAYINGS)
+        .chain(WORD_SAYINGS)
         .filter(|saying| !said.contains_key(saying))
         .collect();
     let outcome = match missing.is_empty() {
@@ -177,6 +221,26 @@ pub fn compare(report: &mut Report, program: &str) {
         false => Err(format!("never came up: {}", missing.join(", "))),
     };
     report.check("console: what an output can say", outcome);
+}
+
+/// The harness itself is tested: each wrong console must be caught by the inputs.
+pub fn check_variants(report: &mut Report) {
+    let inputs: Vec<Vec<u8>> = SORTS
+        .iter()
+        .enumerate()
+        .flat_map(|(index, sort)| {
+            (0..sort.inputs).map(move |number| sort.input(SEED + index as u64, number))
+        })
+        .collect();
+    for variant in ConsoleVariant::SLIPS {
+        let mut inputs = inputs.iter();
+        let otherwise = |input: &Vec<u8>| console_with(variant, input) != reference::console(input);
+        let outcome = match inputs.position(otherwise) {
+            Some(alike) => Ok(format!("after {alike} inputs alike")),
+            None => Err("not caught".to_string()),
+        };
+        report.check(&format!("console catches {variant:?}"), outcome);
+    }
 }
 
 fn example(program: &str) -> Result<String, String> {
@@ -198,7 +262,7 @@ fn compare_sort(
     said: &mut BTreeMap<&'static str, u64>,
 ) -> Result<String, String> {
     for number in 0..sort.inputs {
-        let input = (sort.make)(&mut Rng::new(seed, number), number);
+        let input = sort.input(seed, number);
         let expected = reference::console(&input);
         let place = format!("seed {seed}, input {number}");
         let output = run(program, &input).map_err(|text| format!("{place}: {text}"))?;
@@ -207,7 +271,7 @@ fn compare_sort(
             return Err(format!("{place}: {text}"));
         }
         note_sayings(&expected, said);
-        note_bound_sayings(&input, &expected, said);
+        note_line_sayings(&input, &expected, said);
     }
     Ok(format!("seed {seed}, {} inputs alike", sort.inputs))
 }
@@ -236,32 +300,61 @@ fn note_sayings(output: &[u8], said: &mut BTreeMap<&'static str, u64>) {
     }
 }
 
-/// Finds for each output line the input line it is about.
-fn note_bound_sayings(input: &[u8], output: &[u8], said: &mut BTreeMap<&'static str, u64>) {
+/// Notes what is said of each input line, by its bounds and by its word.
+fn note_line_sayings(input: &[u8], output: &[u8], said: &mut BTreeMap<&'static str, u64>) {
     let (input, output) = (
         String::from_utf8_lossy(input),
         String::from_utf8_lossy(output),
     );
+    for (line, answer) in answered_lines(&input, &output) {
+        let sayings = bound_sayings(line, answer).into_iter();
+        for saying in sayings.chain(word_saying(line, answer)) {
+            *said.entry(saying).or_default() += 1;
+        }
+    }
+}
+
+/// Finds for each output line the input line it is about, and its answer or that it is unreadable.
+fn answered_lines<'a>(input: &'a str, output: &'a str) -> Vec<(&'a str, &'a str)> {
     let lines: Vec<&str> = input.split('\n').collect();
     let mut calls = lines[1..].iter().filter(|line| !line.starts_with("give "));
+    let mut answered = Vec::new();
     for printed in output.lines().skip(1) {
         let items: Vec<&str> = printed.split(' ').collect();
-        let (line, answer) = match items[..] {
+        answered.push(match items[..] {
             ["line", number, answer] => {
                 let number: usize = number.parse().expect("the number of a line");
                 (lines[number - 1], answer)
             }
             [_, answer, _] => (*calls.next().expect("a call for each answer"), answer),
             _ => continue,
-        };
-        for letter in ["g", "l"] {
-            let saying = format!("{letter} {answer}");
-            let saying = BOUND_SAYINGS.into_iter().find(|known| *known == saying);
-            if let Some(saying) = saying.filter(|_| says_for_bound(line, letter, answer)) {
-                *said.entry(saying).or_default() += 1;
-            }
-        }
+        });
     }
+    answered
+}
+
+fn bound_sayings(line: &str, answer: &str) -> Vec<&'static str> {
+    let of_letter = |letter: &str| {
+        let saying = format!("{letter} {answer}");
+        let known = BOUND_SAYINGS.into_iter().find(|known| *known == saying);
+        known.filter(|_| says_for_bound(line, letter, answer))
+    };
+    ["g", "l"].into_iter().filter_map(of_letter).collect()
+}
+
+/// Of an unreadable `read` only if the line could be read with another word.
+fn word_saying(line: &str, answer: &str) -> Option<&'static str> {
+    let (word, rest) = line.split_once(' ')?;
+    let saying = format!("{word} {answer}");
+    let known = WORD_SAYINGS.into_iter().find(|known| *known == saying);
+    let for_word = || !alone(&format!("receive {rest}")).contains(answer);
+    known.filter(|_| word != "read" || for_word())
+}
+
+/// What is printed for a line alone.
+fn alone(line: &str) -> String {
+    let output = reference::console(format!("{INPUT_NAMES}\n{line}\n").as_bytes());
+    String::from_utf8_lossy(&output).into_owned()
 }
 
 /// Whether the line has a bound of this letter, and whether a refusal goes with it: the line alone
@@ -276,9 +369,6 @@ fn says_for_bound(line: &str, letter: &str, answer: &str) -> bool {
         })
         .collect();
     let without = format!("{start} {}", others.join(","));
-    let alone = |line: &str| {
-        let output = reference::console(format!("{INPUT_NAMES}\n{line}\n").as_bytes());
-        String::from_utf8_lossy(&output).contains(answer)
-    };
-    without != line && (matches!(answer, "found" | "none") || alone(line) && !alone(&without))
+    let gets = |line: &str| alone(line).contains(answer);
+    without != line && (matches!(answer, "found" | "none") || gets(line) && !gets(&without))
 }

@@ -2,12 +2,13 @@
 
 use crate::bounds;
 use crate::call::{Call, Kind};
-use crate::duel::{Duel, NAMES_TRAVELLED, ROWS_MOVED, TABLE_FULL};
+use crate::duel::{Duel, HAPPENINGS};
 use crate::pool::{broken_roster, Maker, Mix, Pool, ALL_PARTIES};
 use crate::report::Report;
 use crate::rng::Rng;
 use crate::space::Space;
 use crate::tables::{damage_at_random, damaged_table, sound_table, Damage};
+use crate::tally::Tally;
 use reference::names::PARTIES;
 use reference::table::{broken_clause, ROSTER_WORDS, WORDS};
 
@@ -25,23 +26,26 @@ const RANDOMLY_DAMAGED_TABLES: u64 = 40_000;
 const SPACES_OF_EACH_LENGTH: u64 = 300;
 const TABLES_FOR_ARGUMENTS: u64 = 20_000;
 const FEWEST_CALLS: u64 = 1_000_000;
+/// In each part, and as many receives.
+const FEWEST_LOOKS: u64 = 3_000;
 
-const CALLS: [Kind; 3] = [Kind::Put, Kind::Read, Kind::Take];
+const CALLS: [Kind; 4] = [Kind::Put, Kind::LOOK, Kind::RECEIVE, Kind::TAKE];
 const MIXES: [Mix; 4] = [
-    mix(35, 25, 8),
-    mix(85, 8, 4),
-    mix(50, 10, 4),
-    mix(25, 15, 15),
+    mix(35, 15, 15, 8),
+    mix(84, 5, 5, 4),
+    mix(50, 8, 8, 4),
+    mix(25, 12, 12, 15),
 ];
 /// For spaces that are turned away whatever is asked.
-const UNBROKEN: Mix = mix(34, 33, 0);
+const UNBROKEN: Mix = mix(25, 25, 25, 0);
 /// For arguments that are mostly broken.
-const BROKEN: Mix = mix(34, 33, 90);
+const BROKEN: Mix = mix(25, 25, 25, 90);
 
-const fn mix(puts: usize, reads: usize, broken: usize) -> Mix {
+const fn mix(puts: usize, looks: usize, receives: usize, broken: usize) -> Mix {
     Mix {
         puts,
-        reads,
+        looks,
+        receives,
         broken,
     }
 }
@@ -102,8 +106,7 @@ pub fn compare(report: &mut Report, who: &str, system: &mut dyn Space) {
     }
     let tally = &duel.tally;
     print!("{}", tally.table());
-    let mut expected = vec![NAMES_TRAVELLED, ROWS_MOVED, TABLE_FULL];
-    expected.extend(bounds::ALL.concat());
+    let expected = [HAPPENINGS.to_vec(), bounds::ALL.concat()].concat();
     let reached = tally.check(&expected).and_then(|text| {
         if tally.calls() < FEWEST_CALLS {
             return Err(format!("only {} calls", tally.calls()));
@@ -130,14 +133,28 @@ pub fn first_difference(system: &mut dyn Space, in_damage: bool) -> Option<(u64,
 }
 
 fn run_part(duel: &mut Duel, part: &Part) -> Result<String, String> {
-    let before = duel.tally.calls();
+    let before = counts(&duel.tally);
     for round in 0..part.rounds {
         let mut rng = Rng::new(part.seed, round);
         (part.round)(duel, &mut rng, round)
             .map_err(|text| format!("seed {}, round {round}, {text}", part.seed))?;
     }
-    let calls = duel.tally.calls() - before;
-    Ok(format!("seed {}, {calls} calls alike", part.seed))
+    let after = counts(&duel.tally);
+    let [calls, looks, receives] = std::array::from_fn(|place| after[place] - before[place]);
+    let text = format!(
+        "seed {}, {calls} calls alike, {looks} of them looks and {receives} receives",
+        part.seed
+    );
+    match looks.min(receives) >= FEWEST_LOOKS {
+        true => Ok(text),
+        false => Err(format!("too few: {text}")),
+    }
+}
+
+/// All calls, the looks and the receives.
+fn counts(tally: &Tally) -> [u64; 3] {
+    let of = |kind| tally.calls_of(kind);
+    [tally.calls(), of(Kind::LOOK), of(Kind::RECEIVE)]
 }
 
 /// Makes a call and says which step it was if something differs; an opening is step 0.
@@ -268,7 +285,8 @@ fn random_damage_round(duel: &mut Duel, rng: &mut Rng, _round: u64) -> Result<()
     Ok(())
 }
 
-const LENGTHS: [usize; 11] = [0, 1, 9, 16, 17, 1_795, 1_808, 1_810, 1_823, 3_618, 65_536];
+/// Lengths that no sound space has.
+pub const LENGTHS: [usize; 11] = [0, 1, 9, 16, 17, 1_795, 1_808, 1_810, 1_823, 3_618, 65_536];
 
 /// A sound table cut short or made longer by zeros.
 fn length_round(duel: &mut Duel, rng: &mut Rng, round: u64) -> Result<(), String> {

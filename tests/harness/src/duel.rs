@@ -1,30 +1,42 @@
 //! Makes the same call of a system and of the reference and compares everything afterwards.
 
 use crate::bounds;
-use crate::call::{answer_text, Call, Kind};
+use crate::call::{answer_text, found_fields, Call, Kind};
 use crate::guarded::Guarded;
+use crate::pool::lacks_name_in;
 use crate::rng::Rng;
 use crate::space::Space;
 use crate::tally::Tally;
 use reference::table::{row_start, FIRST_ROW, LIVE, ROWS, WORDS};
-use reference::Reference;
+use reference::{Operation, Reference};
 
-/// A read or take that gave its party a name.
-pub const NAMES_TRAVELLED: &str = "calls by which a party got a new name";
+/// A look that found a name which its party still doesn't hold.
+const NAMES_LOOKED_AT: &str = "looks that found names they didn't gain";
+const NAMES_RECEIVED: &str = "receives that gained names";
+const NAMES_TAKEN: &str = "takes that gained names";
 /// A take that had rows after the taken one.
-pub const ROWS_MOVED: &str = "takes after which later rows moved up";
+const ROWS_MOVED: &str = "takes after which later rows moved up";
 /// A call on a table with all rows live.
-pub const TABLE_FULL: &str = "calls on a table with 128 live rows";
+const TABLE_FULL: &str = "calls on a table with 128 live rows";
+
+/// All that has to happen.
+pub const HAPPENINGS: [&str; 5] = [
+    NAMES_LOOKED_AT,
+    NAMES_RECEIVED,
+    NAMES_TAKEN,
+    ROWS_MOVED,
+    TABLE_FULL,
+];
 
 /// What is lent in a call.
-struct Desk {
-    space: Guarded,
+pub struct Desk {
+    pub space: Guarded,
     input: Guarded,
-    result: Guarded,
+    pub result: Guarded,
 }
 
 impl Desk {
-    fn new() -> Desk {
+    pub fn new() -> Desk {
         Desk {
             space: Guarded::new(),
             input: Guarded::new(),
@@ -32,12 +44,12 @@ impl Desk {
         }
     }
 
-    fn lay_out(&mut self, call: &Call, result: &[u64]) {
+    pub fn lay_out(&mut self, call: &Call, result: &[u64]) {
         self.input.set(call.input());
         self.result.set(result);
     }
 
-    fn make(&mut self, call: &Call, system: &mut dyn Space) -> u32 {
+    pub fn make(&mut self, call: &Call, system: &mut dyn Space) -> u32 {
         call.make(
             system,
             self.space.lent_mut(),
@@ -92,8 +104,14 @@ impl<'a> Duel<'a> {
         self.references.lay_out(call, &result);
         let before = Sight::of(self.space());
         let code = self.references.make(call, &mut self.reference);
+        let looked_at = (call.kind() == Kind::LOOK).then(|| self.systems.space.clone());
         let systems = self.systems.make(call, self.system);
-        let differences = self.systems.differences(&self.references);
+        let mut differences = self.systems.differences(&self.references);
+        // A look is held against the words themselves, whatever the reference makes of them.
+        differences.extend(looked_at.iter().flat_map(|words| {
+            let after = &self.systems.space;
+            after.differences(words, "space looked at")
+        }));
         if systems != code || !differences.is_empty() {
             return Err(difference_text(call, systems, code, &differences));
         }
@@ -101,23 +119,33 @@ impl<'a> Duel<'a> {
         for what in bounds::happenings(call, code, self.references.result.lent(), &before.rows) {
             self.tally.happened(what);
         }
-        self.note_happenings(call.kind(), code, before);
+        self.note_happenings(call, code, before);
         Ok(code)
     }
 
-    fn note_happenings(&mut self, kind: Kind, code: u32, before: Sight) {
+    fn note_happenings(&mut self, call: &Call, code: u32, before: Sight) {
         if before.full {
             self.tally.happened(TABLE_FULL);
         }
-        if !matches!(kind, Kind::Read | Kind::Take) || !(1..=8).contains(&code) {
+        let Call::Find(operation, query) = call else {
+            return;
+        };
+        let found = found_fields(call.kind(), code, self.references.result.lent());
+        if found.is_empty() {
             return;
         }
         let after = Sight::of(self.space());
-        if after.holdings != before.holdings {
-            self.tally.happened(NAMES_TRAVELLED);
+        let gained = after.holdings != before.holdings;
+        match operation {
+            Operation::Look if lacks_name_in(self.space(), query.party, found) => {
+                self.tally.happened(NAMES_LOOKED_AT);
+            }
+            Operation::Receive if gained => self.tally.happened(NAMES_RECEIVED),
+            Operation::Take if gained => self.tally.happened(NAMES_TAKEN),
+            _ => {}
         }
         // The rows before the taken one stay; if the last one was taken, its place is now free.
-        if kind == Kind::Take && after.last_kept_differs(&before) {
+        if *operation == Operation::Take && after.last_kept_differs(&before) {
             self.tally.happened(ROWS_MOVED);
         }
     }

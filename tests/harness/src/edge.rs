@@ -16,6 +16,7 @@ extern "C" {
 }
 
 const NOTHING: c_int = 0;
+const READ: c_int = 1;
 const READ_AND_WRITE: c_int = 3;
 const PRIVATE_AND_OF_NO_FILE: c_int = 0x22;
 
@@ -51,7 +52,7 @@ impl<T: Item> Edge<T> {
         let size = std::mem::size_of::<T>();
         let bytes = ((most + GUARDS) * size).next_multiple_of(PAGES);
         let whole = bytes + 2 * PAGES;
-        // New memory that nothing else uses, of which only the middle is opened.
+        // New memory that nothing else uses, of which only the middle is ever opened.
         let start = unsafe {
             let all = mmap(
                 std::ptr::null_mut(),
@@ -62,10 +63,7 @@ impl<T: Item> Edge<T> {
                 0,
             );
             assert!(all as isize != -1, "no memory of {whole} bytes");
-            let middle = all.cast::<u8>().add(PAGES).cast::<c_void>();
-            let opened = mprotect(middle, bytes, READ_AND_WRITE);
-            assert!(opened == 0, "the memory can't be opened");
-            middle.cast::<T>()
+            all.cast::<u8>().add(PAGES).cast::<T>()
         };
         Edge {
             start,
@@ -81,6 +79,7 @@ impl<T: Item> Edge<T> {
             contents.len() + GUARDS <= self.room,
             "more than there is room"
         );
+        self.open_to(READ_AND_WRITE);
         self.length = contents.len();
         self.place = match side {
             Side::First => 0,
@@ -93,12 +92,23 @@ impl<T: Item> Edge<T> {
         }
     }
 
+    /// From now on, until something else is lent, a write ends the harness as well.
+    pub fn close(&mut self) {
+        self.open_to(READ);
+    }
+
+    fn open_to(&mut self, access: c_int) {
+        let bytes = self.room * std::mem::size_of::<T>();
+        let opened = unsafe { mprotect(self.start.cast(), bytes, access) };
+        assert!(opened == 0, "the memory can't be opened");
+    }
+
     /// What is lent.
     pub fn lent(&self) -> &[T] {
         &self.all()[self.place..self.place + self.length]
     }
 
-    /// What is lent, to be written.
+    /// What is lent, to be written; not while it is closed.
     pub fn lent_mut(&mut self) -> &mut [T] {
         let (first, end) = (self.place, self.place + self.length);
         &mut self.all_mut()[first..end]
@@ -119,7 +129,7 @@ impl<T: Item> Edge<T> {
         }
     }
 
-    // Sound since the pages are open for good and are aligned for every item.
+    // Sound since the pages stay for good and are aligned for every item; `set` opens them.
     fn all(&self) -> &[T] {
         unsafe { std::slice::from_raw_parts(self.start, self.room) }
     }
@@ -160,6 +170,32 @@ mod tests {
         assert_eq!(words.lent().as_ptr_range().end as usize % 4_096, 0);
         words.set(&[1, 2, 3], Side::First);
         assert_eq!(words.lent().as_ptr() as usize % 4_096, 0);
+    }
+
+    #[test]
+    fn closed_until_something_else_is_lent() {
+        let mut words = Edge::<u64>::new(20);
+        words.set(&[1, 2, 3], Side::Last);
+        assert_eq!(access(&words), "rw-p");
+        words.close();
+        assert_eq!(access(&words), "r--p");
+        assert_eq!(words.lent(), [1, 2, 3]);
+        words.set(&[4], Side::First);
+        assert_eq!(access(&words), "rw-p");
+    }
+
+    /// What may be done with what is lent, by the system's own list.
+    fn access(words: &Edge<u64>) -> String {
+        let place = words.lent().as_ptr() as usize;
+        let list = std::fs::read_to_string("/proc/self/maps").expect("the list of all memory");
+        let number = |text: &str| usize::from_str_radix(text, 16).expect("an address");
+        let of_line = |line: &str| {
+            let (range, rest) = line.split_once(' ')?;
+            let (first, end) = range.split_once('-')?;
+            let here = (number(first)..number(end)).contains(&place);
+            here.then(|| rest[..4].to_string())
+        };
+        list.lines().find_map(of_line).expect("a line for it")
     }
 
     #[test]

@@ -2,14 +2,14 @@
 //! do as they like out of its grasp, must look the same to the group.
 
 use crate::bounds;
-use crate::call::{answer_text, is_refusal, Call, Kind};
-use crate::pool::{Maker, Mix, Pool, ALL_PARTIES};
+use crate::call::{answer_text, found_fields, is_refusal, Call, Kind};
+use crate::pool::{lacks_name_in, Maker, Mix, Pool, ALL_PARTIES};
 use crate::report::Report;
 use crate::rng::Rng;
 use crate::space::Space;
 use reference::names::{key_bit, partition_bit, PARTIES};
 use reference::table::{live_rows, KEYS, PARTITIONS, WORDS, WRITER};
-use reference::{co_key, Pair, Reference, Variant};
+use reference::{co_key, Operation, Pair, Reference, Variant};
 use std::collections::BTreeMap;
 
 const SEED: u64 = 5_001;
@@ -91,8 +91,8 @@ impl Group {
     fn grasps(&self, call: &Call) -> bool {
         match call {
             Call::Put { read, take, .. } => self.names.grasp(*read) || self.names.grasp(*take),
-            Call::Take(query) => self.names.grasp(query.pair),
-            Call::Read(_) | Call::Open { .. } => false,
+            Call::Find(Operation::Take, query) => self.names.grasp(query.pair),
+            Call::Find(..) | Call::Open { .. } => false,
         }
     }
 
@@ -100,8 +100,8 @@ impl Group {
     fn allows(&self, premise: Premise, call: &Call, code: u32) -> bool {
         let broken_on_purpose = match call.kind() {
             Kind::Put => premise == Premise::PutsInGrasp,
-            Kind::Take => premise == Premise::TakesInGrasp,
-            Kind::Open | Kind::Read => false,
+            Kind::TAKE => premise == Premise::TakesInGrasp,
+            _ => false,
         };
         broken_on_purpose || is_refusal(code) || !self.grasps(call)
     }
@@ -213,7 +213,8 @@ fn build_twins(rng: &mut Rng, premise: Premise) -> Twins {
         premise,
         mix: Mix {
             puts: rng.pick(&[35, 50, 70]),
-            reads: 15,
+            looks: 10,
+            receives: 10,
             broken: 4,
         },
     };
@@ -279,21 +280,60 @@ impl Counts {
         *self.0.entry(what).or_default() += 1;
     }
 
+    fn add_if(&mut self, what: &'static str, happened: bool) {
+        if happened {
+            self.add(what);
+        }
+    }
+
     fn of(&self, what: &'static str) -> u64 {
         *self.0.get(what).unwrap_or(&0)
     }
 }
 
-const GROUP_CALLS: &str = "calls of the group";
-const GROUP_FOUND: &str = "of them found";
 const ROWS_DIFFER: &str = "pairs with the group's entries in different rows at the end";
-const FOREIGN_REFUSED: &str = "calls from elsewhere refused";
-const FOREIGN: [(Kind, bool, &str); 5] = [
-    (Kind::Put, false, "puts from elsewhere done"),
-    (Kind::Read, true, "reads from elsewhere found"),
-    (Kind::Read, false, "reads from elsewhere none"),
-    (Kind::Take, true, "takes from elsewhere found"),
-    (Kind::Take, false, "takes from elsewhere none"),
+const REFUSED: [(bool, &str); 2] = [
+    (true, "calls of the group refused"),
+    (false, "calls from elsewhere refused"),
+];
+
+/// Unrefused calls: whether they are the group's, of which kind, and whether they found something.
+const OUTCOMES: [(bool, Kind, bool, &str); 14] = [
+    (true, Kind::Put, false, "puts of the group done"),
+    (true, Kind::LOOK, true, "looks of the group found"),
+    (true, Kind::LOOK, false, "looks of the group none"),
+    (true, Kind::RECEIVE, true, "receives of the group found"),
+    (true, Kind::RECEIVE, false, "receives of the group none"),
+    (true, Kind::TAKE, true, "takes of the group found"),
+    (true, Kind::TAKE, false, "takes of the group none"),
+    (false, Kind::Put, false, "puts from elsewhere done"),
+    (false, Kind::LOOK, true, "looks from elsewhere found"),
+    (false, Kind::LOOK, false, "looks from elsewhere none"),
+    (false, Kind::RECEIVE, true, "receives from elsewhere found"),
+    (false, Kind::RECEIVE, false, "receives from elsewhere none"),
+    (false, Kind::TAKE, true, "takes from elsewhere found"),
+    (false, Kind::TAKE, false, "takes from elsewhere none"),
+];
+
+/// Looks that would have gained a name if they had been receives: whether they are the group's.
+const NAMES_LOOKED_AT: [(bool, &str); 2] = [
+    (true, "looks of the group that found names they didn't gain"),
+    (
+        false,
+        "looks from elsewhere that found names they didn't gain",
+    ),
+];
+
+/// Nothing keeps others from looking at the group's entries and receiving what they carry.
+const ENTRIES_OF_GROUP: [(Operation, &str); 2] = [
+    (
+        Operation::Look,
+        "looks from elsewhere that found an entry of the group",
+    ),
+    (
+        Operation::Receive,
+        "receives from elsewhere that found an entry of the group",
+    ),
 ];
 
 /// Unrefused calls with a bound in the template: whether they are the group's and found something.
@@ -305,27 +345,29 @@ const BOUNDED: [(bool, bool, &str); 4] = [
 ];
 
 impl Counts {
-    fn bounded(&mut self, of_group: bool, code: u32) {
+    /// Notes the answer to a call of the group, or to one from elsewhere.
+    fn answered(&mut self, of_group: bool, call: &Call, code: u32) {
+        let outcome = (!is_refusal(code)).then_some(code > 0);
+        let bounded = bounds::is_bounded(call);
+        for (groups, what) in REFUSED {
+            self.add_if(what, groups == of_group && outcome.is_none());
+        }
+        for (groups, kind, found, what) in OUTCOMES {
+            let such = (groups, kind, Some(found)) == (of_group, call.kind(), outcome);
+            self.add_if(what, such);
+        }
         for (groups, found, what) in BOUNDED {
-            if of_group == groups && !is_refusal(code) && (code > 0) == found {
-                self.add(what);
-            }
-        }
-    }
-
-    fn foreign(&mut self, kind: Kind, code: u32) {
-        if is_refusal(code) {
-            self.add(FOREIGN_REFUSED);
-        }
-        for (of_kind, found, what) in FOREIGN {
-            if kind == of_kind && !is_refusal(code) && (code > 0) == found {
-                self.add(what);
-            }
+            let such = (groups, Some(found)) == (of_group, outcome);
+            self.add_if(what, bounded && such);
         }
     }
 
     fn unrefused_foreign(&self) -> u64 {
-        FOREIGN.iter().map(|(_, _, what)| self.of(what)).sum()
+        OUTCOMES
+            .iter()
+            .filter(|(of_group, ..)| !of_group)
+            .map(|(.., what)| self.of(what))
+            .sum()
     }
 }
 
@@ -367,23 +409,39 @@ impl Twins {
             let (code, result) = make(system, call, space, rng.word());
             self.check_names(number, index + 1, space)?;
             let of_group = self.group.has(call.party());
-            if bounds::is_bounded(call) {
-                counts.bounded(of_group, code);
-            }
+            let fields = found_fields(call.kind(), code, &result);
+            counts.answered(of_group, call, code);
+            self.note_found(counts, call, space, fields);
             if of_group {
-                let fields = found_fields(call.kind(), code, &result);
-                counts.add(GROUP_CALLS);
-                if !fields.is_empty() {
-                    counts.add(GROUP_FOUND);
-                }
                 sights.push(self.sight(space, code, fields));
             } else {
                 self.check_premise(number, index + 1, call, code)?;
-                counts.foreign(call.kind(), code);
             }
         }
         sights.push(self.sight(space, 0, &[]));
         Ok(sights)
+    }
+
+    /// Notes which names a look has found, and whose entry a look or a receive. Neither changes a
+    /// row, so that the space afterwards tells it.
+    fn note_found(&self, counts: &mut Counts, call: &Call, space: &[u64], fields: &[u64]) {
+        let Call::Find(operation, query) = call else {
+            return;
+        };
+        if fields.is_empty() {
+            return;
+        }
+        let of_group = self.group.has(call.party());
+        let not_gained = lacks_name_in(space, query.party, fields);
+        for (groups, what) in NAMES_LOOKED_AT {
+            let such = (groups, Operation::Look) == (of_group, *operation);
+            counts.add_if(what, such && not_gained);
+        }
+        let found = Reference::correct().matching_row(*operation, space, query.of(&query.fields));
+        let groups_entry = found.is_some_and(|index| self.group_rows(space).contains(&index));
+        for (kind, what) in ENTRIES_OF_GROUP {
+            counts.add_if(what, !of_group && kind == *operation && groups_entry);
+        }
     }
 
     fn sight(&self, space: &[u64], answer: u32, fields: &[u64]) -> Sight {
@@ -447,14 +505,6 @@ impl Twins {
     }
 }
 
-/// As many result words as an answer "found" counts; other answers have none.
-fn found_fields(kind: Kind, code: u32, result: &[u64]) -> &[u64] {
-    match kind {
-        Kind::Read | Kind::Take if code as usize <= result.len() => &result[..code as usize],
-        _ => &[],
-    }
-}
-
 fn holdings(space: &[u64], party: usize) -> (u64, u64) {
     (space[PARTITIONS + party], space[KEYS + party])
 }
@@ -485,11 +535,14 @@ fn isolation(system: &mut dyn Space) -> Result<String, String> {
     for (what, count) in &counts.0 {
         println!("  {what}: {count}");
     }
-    let expected = FOREIGN
-        .map(|(_, _, what)| what)
+    let expected = OUTCOMES
+        .map(|(.., what)| what)
         .into_iter()
-        .chain(BOUNDED.map(|(_, _, what)| what))
-        .chain([GROUP_FOUND, ROWS_DIFFER, FOREIGN_REFUSED]);
+        .chain(BOUNDED.map(|(.., what)| what))
+        .chain(REFUSED.map(|(_, what)| what))
+        .chain(NAMES_LOOKED_AT.map(|(_, what)| what))
+        .chain(ENTRIES_OF_GROUP.map(|(_, what)| what))
+        .chain([ROWS_DIFFER]);
     for what in expected {
         if counts.of(what) == 0 {
             return Err(format!("seed {SEED}: never happened: {what}"));
@@ -539,6 +592,9 @@ pub fn check_variants(report: &mut Report) {
         Variant::DefaultPartitionMatchesAll,
         Variant::WildcardsMatchPartition,
         Variant::GivesCoKeyToo,
+        Variant::LookRemoves,
+        Variant::LookNeedsNoNames,
+        Variant::ReceiveRemoves,
         Variant::BoundedMatchesAllPartitions,
     ] {
         let mut system = Reference::with(variant);

@@ -18,7 +18,19 @@ extern "C" {
         field_count: usize,
     ) -> u32;
 
-    fn space_read(
+    fn space_look(
+        space: *const u64,
+        space_len: usize,
+        party: u32,
+        partition: u32,
+        key: i32,
+        fields: *const u64,
+        field_count: usize,
+        result: *mut u64,
+        result_len: usize,
+    ) -> u32;
+
+    fn space_receive(
         space: *mut u64,
         space_len: usize,
         party: u32,
@@ -48,6 +60,25 @@ extern "C" {
         roster: *mut u64,
         roster_len: usize,
     ) -> u32;
+}
+
+/// Looks at a space that is lent only to be read. Sound as the calls below are.
+pub fn look(space: &[u64], query: Query, result: &mut [u64]) -> u32 {
+    unsafe { look_at(space.as_ptr(), space.len(), query, result) }
+}
+
+unsafe fn look_at(space: *const u64, space_len: usize, query: Query, result: &mut [u64]) -> u32 {
+    space_look(
+        space,
+        space_len,
+        query.party,
+        query.pair.partition,
+        query.pair.key,
+        query.fields.as_ptr(),
+        query.fields.len(),
+        result.as_mut_ptr(),
+        result.len(),
+    )
 }
 
 /// Reads a roster file into the lent words. Sound as the calls below are.
@@ -97,7 +128,11 @@ impl Space for Library {
 
     fn find(&mut self, op: Operation, space: &mut [u64], query: Query, result: &mut [u64]) -> u32 {
         let call = match op {
-            Operation::Read => space_read,
+            // By a pointer that may write, so that a word which is written all the same is seen.
+            Operation::Look => {
+                return unsafe { look_at(space.as_mut_ptr(), space.len(), query, result) };
+            }
+            Operation::Receive => space_receive,
             Operation::Take => space_take,
         };
         unsafe {

@@ -19,6 +19,7 @@ mod guarded;
 mod isolation;
 #[cfg(library_linked)]
 mod library;
+mod looks;
 mod pool;
 mod program;
 mod report;
@@ -32,6 +33,7 @@ mod tables;
 mod tally;
 mod variants;
 
+use looks::Look;
 use reference::Reference;
 use report::Report;
 use roster::ReadRoster;
@@ -86,15 +88,22 @@ fn run_part(report: &mut Report, part: &str) -> Result<(), &'static str> {
             let mut reference = Reference::correct();
             cases::check(report, "reference", &mut reference);
             differential::compare(report, "reference", &mut reference);
+            looks::check(report, "reference", &mut reference);
             isolation::check(report, "reference", &mut reference);
         }
         "variants" => {
             variants::check(report);
+            looks::check_variants(report);
             isolation::check_variants(report);
+            console::check_variants(report);
             roster::check_variants(report);
         }
         "cases" => cases::check(report, "library", library()?.as_mut()),
-        "differential" => differential::compare(report, "library", library()?.as_mut()),
+        "differential" => {
+            differential::compare(report, "library", library()?.as_mut());
+            looks::check(report, "library", library()?.as_mut());
+            looks::check_closed(report, look()?);
+        }
         "isolation" => isolation::check(report, "library", library()?.as_mut()),
         "console" => {
             let program = std::env::var("CONSOLE").map_err(|_| "CONSOLE names no program")?;
@@ -115,6 +124,16 @@ fn library() -> Result<Box<dyn Space>, &'static str> {
 
 #[cfg(not(library_linked))]
 fn library() -> Result<Box<dyn Space>, &'static str> {
+    Err(NO_LIBRARY)
+}
+
+#[cfg(library_linked)]
+fn look() -> Result<&'static Look<'static>, &'static str> {
+    Ok(&library::look)
+}
+
+#[cfg(not(library_linked))]
+fn look() -> Result<&'static Look<'static>, &'static str> {
     Err(NO_LIBRARY)
 }
 

@@ -9,7 +9,7 @@ use reference::table::{
     row_fields, row_start, KEYS, LIVE, PARTITIONS, READ_KEY, READ_PARTITION, ROSTER_WORDS,
     ROW_WORDS, TAKE_KEY, TAKE_PARTITION,
 };
-use reference::{co_key, Field, Pair};
+use reference::{co_key, Field, Operation, Pair};
 
 /// Field and result counts go up to this.
 pub const MOST_WORDS: usize = 20;
@@ -104,9 +104,23 @@ impl Pool {
 #[derive(Clone, Copy, Debug)]
 pub struct Mix {
     pub puts: usize,
-    pub reads: usize,
+    pub looks: usize,
+    pub receives: usize,
     /// Calls with an argument broken on purpose; some of these with a second one, and so on.
     pub broken: usize,
+}
+
+impl Mix {
+    /// The kind for a number below a hundred.
+    fn kind(self, dice: usize) -> Kind {
+        let looks = self.puts + self.looks;
+        match dice {
+            _ if dice < self.puts => Kind::Put,
+            _ if dice < looks => Kind::LOOK,
+            _ if dice < looks + self.receives => Kind::RECEIVE,
+            _ => Kind::TAKE,
+        }
+    }
 }
 
 /// Makes calls that fit a sound space.
@@ -117,13 +131,9 @@ pub struct Maker<'a> {
 }
 
 impl Maker<'_> {
-    /// A put, read or take that fits this sound space more often than not.
+    /// A put, look, receive or take that fits this sound space more often than not.
     pub fn call(&self, rng: &mut Rng, space: &[u64]) -> Call {
-        let kind = match rng.below(100) {
-            dice if dice < self.mix.puts => Kind::Put,
-            dice if dice < self.mix.puts + self.mix.reads => Kind::Read,
-            _ => Kind::Take,
-        };
+        let kind = self.mix.kind(rng.below(100));
         self.call_of_kind(rng, space, kind)
     }
 
@@ -132,8 +142,7 @@ impl Maker<'_> {
         let mut call = match kind {
             Kind::Open => unreachable!("openings are made elsewhere"),
             Kind::Put => self.put(rng, space),
-            Kind::Read => Call::Read(self.query(rng, space, kind)),
-            Kind::Take => Call::Take(self.query(rng, space, kind)),
+            Kind::Find(operation) => Call::Find(operation, self.query(rng, space, operation)),
         };
         while rng.percent(self.mix.broken) {
             break_argument(rng, &mut call);
@@ -162,14 +171,14 @@ impl Maker<'_> {
         }
     }
 
-    fn query(&self, rng: &mut Rng, space: &[u64], kind: Kind) -> Query {
+    fn query(&self, rng: &mut Rng, space: &[u64], operation: Operation) -> Query {
         let live = space[LIVE] as usize;
         if live == 0 || rng.percent(20) {
             return self.random_query(rng, space);
         }
         let start = row_start(rng.below(live));
         let row = &space[start..start + ROW_WORDS];
-        self.query_for_row(rng, space, kind, row)
+        self.query_for_row(rng, space, operation, row)
     }
 
     fn random_query(&self, rng: &mut Rng, space: &[u64]) -> Query {
@@ -193,10 +202,10 @@ impl Maker<'_> {
     }
 
     /// A template that matches this row, or nearly so.
-    fn query_for_row(&self, rng: &mut Rng, space: &[u64], kind: Kind, row: &[u64]) -> Query {
-        let (partition, stored) = match kind {
-            Kind::Take => (row[TAKE_PARTITION], row[TAKE_KEY]),
-            _ => (row[READ_PARTITION], row[READ_KEY]),
+    fn query_for_row(&self, rng: &mut Rng, space: &[u64], op: Operation, row: &[u64]) -> Query {
+        let (partition, stored) = match op {
+            Operation::Take => (row[TAKE_PARTITION], row[TAKE_KEY]),
+            Operation::Look | Operation::Receive => (row[READ_PARTITION], row[READ_KEY]),
         };
         let pair = Pair {
             partition: partition as u32,
@@ -288,6 +297,13 @@ fn holds_names_of(space: &[u64], party: u32, word: u64) -> bool {
     holds_pair(space, party, pair)
 }
 
+/// Whether these fields carry a name that the party doesn't hold.
+pub fn lacks_name_in(space: &[u64], party: u32, fields: &[u64]) -> bool {
+    fields
+        .iter()
+        .any(|word| !holds_names_of(space, party, *word))
+}
+
 /// A bound at the number in this word or just beside it, at either end, or anywhere.
 fn bound_at(rng: &mut Rng, word: u64) -> u64 {
     let at = word as u32;
@@ -319,7 +335,7 @@ fn break_party(rng: &mut Rng, call: &mut Call) {
     match call {
         Call::Open { .. } => {}
         Call::Put { party, .. } => *party = bad,
-        Call::Read(query) | Call::Take(query) => query.party = bad,
+        Call::Find(_, query) => query.party = bad,
     }
 }
 
@@ -330,7 +346,7 @@ fn break_count(rng: &mut Rng, call: &mut Call) {
     };
     let word = rng.pick(&[0, 1, Field::Wildcard.word(), u64::MAX]);
     fields_of(call).resize(count, word);
-    if let Call::Read(query) | Call::Take(query) = call {
+    if let Call::Find(_, query) = call {
         query.result_len = rng.between(0, MOST_WORDS);
     }
 }
@@ -379,7 +395,7 @@ fn break_field(rng: &mut Rng, call: &mut Call) {
 }
 
 fn break_result(rng: &mut Rng, call: &mut Call) {
-    if let Call::Read(query) | Call::Take(query) = call {
+    if let Call::Find(_, query) = call {
         query.result_len = rng.below(query.fields.len().max(1));
     }
 }
@@ -406,7 +422,7 @@ fn some_pair<'a>(rng: &mut Rng, call: &'a mut Call) -> &'a mut Pair {
             true => read,
             false => take,
         },
-        Call::Read(query) | Call::Take(query) => &mut query.pair,
+        Call::Find(_, query) => &mut query.pair,
     }
 }
 
@@ -414,7 +430,7 @@ fn fields_of(call: &mut Call) -> &mut Vec<u64> {
     match call {
         Call::Open { .. } => unreachable!("an opening has no fields"),
         Call::Put { fields, .. } => fields,
-        Call::Read(query) | Call::Take(query) => &mut query.fields,
+        Call::Find(_, query) => &mut query.fields,
     }
 }
 

@@ -1,6 +1,6 @@
 //! Random inputs for the console: readable ones, and ones broken in many ways.
 
-use crate::call::{Call, Query};
+use crate::call::Call;
 use crate::pool::{Maker, Mix, Pool, ALL_PARTIES};
 use crate::rng::Rng;
 use reference::console::{INPUT_NAMES, MOST_FIELDS_IN_LINE};
@@ -9,7 +9,7 @@ use reference::table::{ROSTER_WORDS, WORDS};
 use reference::{Field, Pair, Reference};
 
 /// Items and fields at the ends of what is readable, and just past them.
-const NASTY_ITEMS: [&str; 50] = [
+const NASTY_ITEMS: [&str; 57] = [
     "-",
     "",
     "--",
@@ -58,6 +58,13 @@ const NASTY_ITEMS: [&str; 50] = [
     "m",
     "give",
     "put",
+    "look",
+    "Look",
+    "loo",
+    "looks",
+    "receive",
+    "receiv",
+    "received",
     "read",
     "take",
 ];
@@ -228,7 +235,8 @@ impl Script {
             parties: &ALL_PARTIES,
             mix: Mix {
                 puts: 45,
-                reads: 25,
+                looks: 15,
+                receives: 15,
                 broken: 10,
             },
         };
@@ -259,14 +267,12 @@ fn call_text(call: &Call) -> Option<String> {
             "put {party} {} {} {} {} {fields}\n",
             read.partition, read.key, take.partition, take.key
         ),
-        Call::Read(query) => format!("read {} {fields}\n", query_text(query)),
-        Call::Take(query) => format!("take {} {fields}\n", query_text(query)),
+        Call::Find(_, query) => {
+            let Pair { partition, key } = query.pair;
+            let word = call.kind().word();
+            format!("{word} {} {partition} {key} - - {fields}\n", query.party)
+        }
     })
-}
-
-fn query_text(query: &Query) -> String {
-    let Pair { partition, key } = query.pair;
-    format!("{} {partition} {key} - -", query.party)
 }
 
 fn fields_text(words: &[u64]) -> Option<String> {
@@ -298,16 +304,22 @@ fn field_text(word: u64) -> Option<String> {
 
 /// The lines that are changed item by item, with good lines before and after.
 const BEFORE: &str = "give 0 5 4 - - -\n";
-const ITEM_LINES: [&str; 4] = [
+const ITEM_LINES: [&str; 5] = [
     "give 1 5 -4 - - -",
     "put 0 5 4 5 4 m1,p5,k4",
-    "read 0 0 0 - - *,m1",
+    "look 0 0 0 - - *,m1",
+    "receive 0 0 0 - - *,m1",
     "take 0 0 0 - - *,m1",
 ];
 const AFTER: &str = "put 0 0 0 0 0 m1\n";
 const ITEMS: usize = 7;
 /// The beginnings of lines whose fields are changed.
-const FIELD_LINES: [&str; 3] = ["put 0 5 4 5 4", "read 0 5 4 - -", "take 0 5 4 - -"];
+const FIELD_LINES: [&str; 4] = [
+    "put 0 5 4 5 4",
+    "look 0 5 4 - -",
+    "receive 0 5 4 - -",
+    "take 0 5 4 - -",
+];
 const SHAPES: [&str; 3] = ["{}", "{},m1", "m1,{}"];
 const LISTED: [&str; 4] = ["m1", "*", "g1", "l1"];
 const MOST_LISTED: usize = 20;
@@ -415,6 +427,14 @@ pub fn break_line(rng: &mut Rng, input: &mut Vec<u8>) {
     });
 }
 
+/// Puts `read`, which no line begins with, in the place of a line's word.
+pub fn break_word(rng: &mut Rng, input: &mut Vec<u8>) {
+    change_line(rng, input, |_, line| {
+        let (_, rest) = line.split_once(' ').unwrap_or_default();
+        format!("read {rest}")
+    });
+}
+
 /// Changes one line, any of them; an input has at least its names line.
 fn change_line(rng: &mut Rng, input: &mut Vec<u8>, change: impl FnOnce(&mut Rng, &str) -> String) {
     let text = String::from_utf8_lossy(input).into_owned();
@@ -430,7 +450,7 @@ pub fn noise(rng: &mut Rng) -> Vec<u8> {
         true => format!("{INPUT_NAMES}\n").into_bytes(),
         false => Vec::new(),
     };
-    let alphabet = b"\n \t-,*mpkgl0123456789 putreadkgivm\n";
+    let alphabet = b"\n \t-,*mpkgl0123456789 putreadkgivmloc\n";
     for _ in 0..rng.below(200) {
         let any = rng.word() as u8;
         let likely = rng.pick(alphabet);

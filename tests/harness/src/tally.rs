@@ -7,7 +7,7 @@ use std::collections::{BTreeMap, BTreeSet};
 /// The counts, and how often some things happened that no answer tells.
 #[derive(Default)]
 pub struct Tally {
-    counts: BTreeMap<(usize, u32), u64>,
+    counts: BTreeMap<(Kind, u32), u64>,
     happenings: BTreeMap<&'static str, u64>,
     field_counts: BTreeSet<usize>,
     result_counts: BTreeSet<usize>,
@@ -18,7 +18,7 @@ fn possible(kind: Kind, code: u32) -> bool {
     match kind {
         Kind::Open => matches!(code, 0 | 101 | 109),
         Kind::Put => matches!(code, 0 | 101..=105 | 107 | 108),
-        Kind::Read | Kind::Take => matches!(code, 0..=8 | 101..=107),
+        Kind::Find(_) => matches!(code, 0..=8 | 101..=107),
     }
 }
 
@@ -29,11 +29,11 @@ fn codes() -> impl Iterator<Item = u32> {
 impl Tally {
     pub fn count(&mut self, call: &Call, code: u32) {
         let kind = call.kind();
-        *self.counts.entry((kind as usize, code)).or_default() += 1;
+        *self.counts.entry((kind, code)).or_default() += 1;
         if kind != Kind::Open {
             self.field_counts.insert(call.input().len());
         }
-        if matches!(kind, Kind::Read | Kind::Take) {
+        if matches!(kind, Kind::Find(_)) {
             self.result_counts.insert(call.result_len());
         }
     }
@@ -46,20 +46,26 @@ impl Tally {
         self.counts.values().sum()
     }
 
+    /// How many calls of this kind were made.
+    pub fn calls_of(&self, kind: Kind) -> u64 {
+        codes().map(|code| self.of(kind, code)).sum()
+    }
+
     fn of(&self, kind: Kind, code: u32) -> u64 {
-        *self.counts.get(&(kind as usize, code)).unwrap_or(&0)
+        *self.counts.get(&(kind, code)).unwrap_or(&0)
     }
 
     /// The table of counts, a `-` where the rules allow no such answer.
     pub fn table(&self) -> String {
-        let mut text = format!(
-            "  {:<12}{:>10}{:>10}{:>10}{:>10}\n",
-            "answer", "open", "put", "read", "take"
-        );
+        let mut text = format!("  {:<12}", "answer");
+        for kind in Kind::ALL {
+            text.push_str(&format!("{:>10}", kind.word()));
+        }
+        text.push('\n');
         for code in codes() {
             let name = match code {
                 0 => "done or none".to_string(),
-                _ => answer_text(Kind::Read, code),
+                _ => answer_text(Kind::LOOK, code),
             };
             text.push_str(&format!("  {name:<12}"));
             for kind in Kind::ALL {
@@ -84,7 +90,7 @@ impl Tally {
         for kind in Kind::ALL {
             for code in codes() {
                 if possible(kind, code) && self.of(kind, code) == 0 {
-                    missing.push(format!("{kind:?}: {}", answer_text(kind, code)));
+                    missing.push(format!("{}: {}", kind.word(), answer_text(kind, code)));
                 }
             }
         }
@@ -106,9 +112,9 @@ impl Tally {
             return Err(format!("never reached: {}", missing.join(", ")));
         }
         for (kind, code) in self.counts.keys() {
-            let kind = Kind::ALL[*kind];
-            if !possible(kind, *code) {
-                return Err(format!("{kind:?} answered {}", answer_text(kind, *code)));
+            if !possible(*kind, *code) {
+                let answer = answer_text(*kind, *code);
+                return Err(format!("{} answered {answer}", kind.word()));
             }
         }
         Ok(format!(

@@ -9,6 +9,7 @@ pub fn check(report: &mut Report) {
     let wrong = Variant::BLUNDERS
         .into_iter()
         .chain(Variant::SLIPS)
+        .chain(Variant::OPERATION_SLIPS)
         .chain(Variant::BOUND_SLIPS)
         .chain(Variant::skipped_clauses());
     for variant in wrong {

@@ -5,9 +5,9 @@
 pub enum Answer {
     /// Of open and put.
     Done,
-    /// Of read and take, with the field count.
+    /// Of look, receive and take, with the field count.
     Found(usize),
-    /// Of read and take.
+    /// Of look, receive and take.
     None,
     /// With the refusal's number, 1 to 9.
     Refused(u32),

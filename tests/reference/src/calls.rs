@@ -1,4 +1,4 @@
-//! The four calls: open, put, read and take.
+//! The five calls: open, put, look, receive and take.
 
 use crate::answer::Answer;
 use crate::names::{
@@ -12,14 +12,16 @@ use crate::table::{
 };
 use crate::variant::Variant;
 
-/// Whether an entry is only read or also taken.
-#[derive(Clone, Copy, Debug, PartialEq, Eq)]
+/// What is done with the entry that is found: it is only looked at, its names are received as
+/// well, or it is also taken away.
+#[derive(Clone, Copy, Debug, PartialEq, Eq, PartialOrd, Ord)]
 pub enum Operation {
-    Read,
+    Look,
+    Receive,
     Take,
 }
 
-/// What a read or a take names: the party and the template.
+/// What a look, a receive or a take names: the party and the template.
 #[derive(Clone, Copy, Debug)]
 pub struct Query<'a> {
     pub party: u32,
@@ -90,7 +92,7 @@ impl Reference {
         Answer::Done
     }
 
-    /// Reads or takes: finds the oldest match, and removes it if it is taken.
+    /// Looks, receives or takes: finds the oldest match, and does with it what the operation says.
     pub fn find(
         &mut self,
         operation: Operation,
@@ -98,15 +100,10 @@ impl Reference {
         query: Query,
         result: &mut [u64],
     ) -> Answer {
-        let Query {
-            party,
-            pair,
-            fields,
-        } = query;
-        if let Some(number) = self.find_refusal(space, query, result.len()) {
+        if let Some(number) = self.find_refusal(operation, space, query, result.len()) {
             return Answer::Refused(number);
         }
-        let Some(index) = self.matching_row(operation, space, pair, fields) else {
+        let Some(index) = self.matching_row(operation, space, query) else {
             return Answer::None;
         };
         let start = row_start(index);
@@ -117,20 +114,29 @@ impl Reference {
             return Answer::Refused(6);
         }
         result[..found.len()].copy_from_slice(&found);
-        match self.variant {
-            Variant::GivesNamesOfTemplate => self.give_names(space, party as usize, fields),
-            _ => self.give_names(space, party as usize, &found),
+        let party = query.party as usize;
+        if self.gives_names(operation) {
+            match self.variant {
+                Variant::GivesNamesOfTemplate => self.give_names(space, party, query.fields),
+                _ => self.give_names(space, party, &found),
+            }
         }
-        if operation == Operation::Take {
+        if self.removes(operation) {
             self.remove_row(space, index);
-            self.lower_charge(writer, party as usize);
+            self.lower_charge(writer, party);
         }
         Answer::Found(found.len())
     }
 
     /// The refusals that come first for every call but an opening.
-    fn first_refusal(&self, space: &[u64], party: u32, fields: &[u64]) -> Option<u32> {
-        if !self.sound(space) {
+    fn first_refusal(
+        &self,
+        operation: Option<Operation>,
+        space: &[u64],
+        party: u32,
+        fields: &[u64],
+    ) -> Option<u32> {
+        if !self.sound(operation, space) {
             return Some(1);
         }
         if party as usize >= PARTIES {
@@ -151,7 +157,7 @@ impl Reference {
         take: Pair,
         fields: &[u64],
     ) -> Option<u32> {
-        if let Some(number) = self.first_refusal(space, party, fields) {
+        if let Some(number) = self.first_refusal(None, space, party, fields) {
             return Some(number);
         }
         if !read.in_range() || !take.in_range() {
@@ -173,14 +179,20 @@ impl Reference {
         None
     }
 
-    /// The refusals of a read or a take, in the order of the rules' table.
-    fn find_refusal(&self, space: &[u64], query: Query, result_len: usize) -> Option<u32> {
+    /// The refusals of a look, a receive or a take, in the order of the rules' table.
+    fn find_refusal(
+        &self,
+        operation: Operation,
+        space: &[u64],
+        query: Query,
+        result_len: usize,
+    ) -> Option<u32> {
         let Query {
             party,
             pair,
             fields,
         } = query;
-        if let Some(number) = self.first_refusal(space, party, fields) {
+        if let Some(number) = self.first_refusal(Some(operation), space, party, fields) {
             return Some(number);
         }
         if !pair.in_range() {
@@ -196,23 +208,35 @@ impl Reference {
             return Some(6);
         }
         let party = party as usize;
-        if !holds_pair(space, party, pair)
-            || !holds_names_in(space, party, fields)
-            || self.misses_partition(space, party, fields)
-        {
+        let holds = holds_pair(space, party, pair)
+            && holds_names_in(space, party, fields)
+            && !self.misses_partition(space, party, fields);
+        if !holds && (self.variant, operation) != (Variant::LookNeedsNoNames, Operation::Look) {
             return Some(7);
         }
         None
     }
 
-    fn sound(&self, space: &[u64]) -> bool {
+    fn sound(&self, operation: Option<Operation>, space: &[u64]) -> bool {
         Clause::ALL
             .into_iter()
-            .filter(|clause| self.variant != Variant::Skips(*clause))
+            .filter(|clause| !self.skips(operation, *clause))
             .all(|clause| match clause {
                 Clause::FieldWords => all_field_words(space, |word| self.may_be_in_row(word)),
                 _ => clause.holds(space),
             })
+    }
+
+    /// Whether a slip leaves this clause of soundness out; without the length there would be no
+    /// table to look at.
+    fn skips(&self, operation: Option<Operation>, clause: Clause) -> bool {
+        match self.variant {
+            Variant::Skips(skipped) => clause == skipped,
+            Variant::LookTrustsSpace => {
+                operation == Some(Operation::Look) && clause != Clause::Length
+            }
+            _ => false,
+        }
     }
 
     fn may_be_put(&self, word: u64) -> bool {
@@ -252,36 +276,57 @@ impl Reference {
             })
     }
 
-    /// The row of the oldest match.
-    fn matching_row(
-        &self,
-        operation: Operation,
-        space: &[u64],
-        pair: Pair,
-        fields: &[u64],
-    ) -> Option<usize> {
+    /// The row of the oldest match in a sound space.
+    pub fn matching_row(&self, operation: Operation, space: &[u64], query: Query) -> Option<usize> {
         let mut rows = live_rows(space)
             .enumerate()
-            .filter(|(_, row)| self.matches(operation, row, pair, fields))
+            .filter(|(_, row)| self.matches(operation, row, query))
             .map(|(index, _)| index);
-        match self.variant {
-            Variant::NewestFirst => rows.last(),
+        match (self.variant, operation) {
+            (Variant::NewestFirst, _) | (Variant::LookFindsNewest, Operation::Look) => rows.last(),
             _ => rows.next(),
         }
     }
 
     /// The four conditions of a match.
-    fn matches(&self, operation: Operation, row: &[u64], pair: Pair, template: &[u64]) -> bool {
-        let (partition, key) = match operation {
-            Operation::Take if self.variant != Variant::TakeTestsReadPair => {
-                (row[TAKE_PARTITION], row[TAKE_KEY])
-            }
-            _ => (row[READ_PARTITION], row[READ_KEY]),
+    fn matches(&self, operation: Operation, row: &[u64], query: Query) -> bool {
+        let (partition, key) = match self.goes_by_take_pair(operation) {
+            true => (row[TAKE_PARTITION], row[TAKE_KEY]),
+            false => (row[READ_PARTITION], row[READ_KEY]),
         };
-        row[FIELD_COUNT] == template.len() as u64
-            && self.fields_agree(row_fields(row), template)
-            && self.partition_agrees(partition, pair.partition, template)
-            && self.key_agrees(key, pair.key)
+        row[FIELD_COUNT] == query.fields.len() as u64
+            && self.fields_agree(row_fields(row), query.fields)
+            && self.partition_agrees(partition, query.pair.partition, query.fields)
+            && self.key_agrees(key, query.pair.key)
+    }
+
+    /// Only a take goes by the take pair.
+    fn goes_by_take_pair(&self, operation: Operation) -> bool {
+        match (self.variant, operation) {
+            (Variant::TakeTestsReadPair, Operation::Take) => false,
+            (Variant::LookTestsTakePair, Operation::Look) => true,
+            (Variant::ReceiveTestsTakePair, Operation::Receive) => true,
+            _ => operation == Operation::Take,
+        }
+    }
+
+    /// Only a look gives no names.
+    fn gives_names(&self, operation: Operation) -> bool {
+        match (self.variant, operation) {
+            (Variant::LookGivesNames, Operation::Look) => true,
+            (Variant::ReceiveGivesNoNames, Operation::Receive) => false,
+            (Variant::TakeGivesNoNames, Operation::Take) => false,
+            _ => operation != Operation::Look,
+        }
+    }
+
+    /// Only a take removes the entry.
+    fn removes(&self, operation: Operation) -> bool {
+        match (self.variant, operation) {
+            (Variant::LookRemoves, Operation::Look) => true,
+            (Variant::ReceiveRemoves, Operation::Receive) => true,
+            _ => operation == Operation::Take,
+        }
     }
 
     fn fields_agree(&self, entrys: &[u64], template: &[u64]) -> bool {

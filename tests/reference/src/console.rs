@@ -2,6 +2,7 @@
 
 use crate::answer::Answer;
 use crate::calls::{Operation, Query, Reference};
+use crate::console_variant::ConsoleVariant;
 use crate::names::{
     key_bit, key_in_range, partition_bit, Field, Pair, LAST_PARTITION, MOST_FIELDS, PARTIES,
 };
@@ -18,10 +19,15 @@ pub const MOST_FIELDS_IN_LINE: usize = 16;
 
 /// What the console program prints for an input.
 pub fn console(input: &[u8]) -> Vec<u8> {
+    console_with(ConsoleVariant::Correct, input)
+}
+
+/// What a console with this blunder prints.
+pub fn console_with(variant: ConsoleVariant, input: &[u8]) -> Vec<u8> {
     if input.len() > LONGEST_INPUT {
         return b"input too long\n".to_vec();
     }
-    let mut session = Session::new();
+    let mut session = Session::new(variant);
     let mut output = String::new();
     for (index, line) in lines(input).enumerate() {
         match line.and_then(|line| session.line(index, line)) {
@@ -78,6 +84,7 @@ enum Line {
 
 /// The gives so far, or the space that they opened.
 struct Session {
+    variant: ConsoleVariant,
     roster: [u64; ROSTER_WORDS],
     /// Opened by the first call; from then on no give is readable.
     space: Option<Vec<u64>>,
@@ -86,8 +93,9 @@ struct Session {
 }
 
 impl Session {
-    fn new() -> Session {
+    fn new(variant: ConsoleVariant) -> Session {
         Session {
+            variant,
             roster: [0; ROSTER_WORDS],
             space: None,
             reference: Reference::correct(),
@@ -101,7 +109,7 @@ impl Session {
         if index == 0 {
             return (text == INPUT_NAMES.as_bytes()).then(|| format!("{OUTPUT_NAMES}\n"));
         }
-        let line = parse_line(text)?;
+        let line = parse_line(self.variant, text)?;
         if let Line::Give {
             party,
             partition,
@@ -169,7 +177,7 @@ impl Session {
 }
 
 /// Reads a line of seven items with one space between.
-fn parse_line(text: &[u8]) -> Option<Line> {
+fn parse_line(variant: ConsoleVariant, text: &[u8]) -> Option<Line> {
     let items: Vec<&[u8]> = text.split(|byte| *byte == b' ').collect();
     let [call, party, rpart, rkey, tpart, tkey, fields] = items[..] else {
         return None;
@@ -185,13 +193,11 @@ fn parse_line(text: &[u8]) -> Option<Line> {
             take: parse_pair(tpart, tkey)?,
             fields: parse_fields(fields)?,
         }),
-        b"read" => parse_find(Operation::Read, &items),
-        b"take" => parse_find(Operation::Take, &items),
-        _ => None,
+        _ => parse_find(variant.operation(call)?, &items),
     }
 }
 
-/// A read or a take names no take pair.
+/// A look, a receive or a take names one pair.
 fn parse_find(operation: Operation, items: &[&[u8]]) -> Option<Line> {
     all_absent(&items[4..6])?;
     Some(Line::Find {

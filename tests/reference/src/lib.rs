@@ -2,12 +2,13 @@
 //!
 //! It is meant to be compared with, so it is simple and slow on purpose: every call tests the
 //! whole table clause by clause and counts rows anew. `Variant` selects a known blunder, with
-//! which the comparison itself is tested; `Reference::correct` has none. The same of roster files:
-//! `RosterVariant` and `RosterReader::correct`.
+//! which the comparison itself is tested; `Reference::correct` has none. The same of the console,
+//! `ConsoleVariant` and `console`, and of roster files, `RosterVariant` and `RosterReader::correct`.
 
 pub mod answer;
 pub mod calls;
 pub mod console;
+pub mod console_variant;
 pub mod names;
 pub mod roster;
 pub mod roster_variant;
@@ -16,7 +17,8 @@ pub mod variant;
 
 pub use answer::Answer;
 pub use calls::{Operation, Query, Reference};
-pub use console::console;
+pub use console::{console, console_with};
+pub use console_variant::ConsoleVariant;
 pub use names::{co_key, Field, Pair};
 pub use roster::{read_roster, roster, RosterReader};
 pub use roster_variant::RosterVariant;

@@ -22,7 +22,7 @@ pub enum Variant {
     NeverLowersCharge,
     /// Finds a match before it looks at the result's length.
     TestsResultLate,
-    /// Gives the names in the template and not those in the entry.
+    /// A receive or a take gives the names in the template and not those in the entry.
     GivesNamesOfTemplate,
     /// Gives the co-key of a carried key as well.
     GivesCoKeyToo,
@@ -32,6 +32,26 @@ pub enum Variant {
     LeavesFreedRow,
     /// Allows a seventeenth live entry.
     LimitOneTooHigh,
+    /// A look gives the names that it finds, as a receive does.
+    LookGivesNames,
+    /// A look removes the entry.
+    LookRemoves,
+    /// Tests the take pair in a look.
+    LookTestsTakePair,
+    /// A look finds the newest match.
+    LookFindsNewest,
+    /// A look needs none of the names that it uses.
+    LookNeedsNoNames,
+    /// A look takes every space of the right length for sound.
+    LookTrustsSpace,
+    /// A receive gives no names, as a look does.
+    ReceiveGivesNoNames,
+    /// A receive removes the entry.
+    ReceiveRemoves,
+    /// Tests the take pair in a receive.
+    ReceiveTestsTakePair,
+    /// A take gives no names.
+    TakeGivesNoNames,
     /// Takes at least a number for more than it.
     AtLeastIsMoreThan,
     /// Takes at most a number for less than it.
@@ -90,6 +110,20 @@ impl Variant {
         Variant::LimitOneTooHigh,
     ];
 
+    /// Slips about what tells looks, receives and takes apart.
+    pub const OPERATION_SLIPS: [Variant; 10] = [
+        Variant::LookGivesNames,
+        Variant::LookRemoves,
+        Variant::LookTestsTakePair,
+        Variant::LookFindsNewest,
+        Variant::LookNeedsNoNames,
+        Variant::LookTrustsSpace,
+        Variant::ReceiveGivesNoNames,
+        Variant::ReceiveRemoves,
+        Variant::ReceiveTestsTakePair,
+        Variant::TakeGivesNoNames,
+    ];
+
     /// Slips about the bounds.
     pub const BOUND_SLIPS: [Variant; 16] = [
         Variant::AtLeastIsMoreThan,
@@ -122,7 +156,10 @@ impl Variant {
     pub fn is_about_soundness(self) -> bool {
         matches!(
             self,
-            Variant::AtLeastInRowIsSound | Variant::AtMostInRowIsSound | Variant::Skips(_)
+            Variant::LookTrustsSpace
+                | Variant::AtLeastInRowIsSound
+                | Variant::AtMostInRowIsSound
+                | Variant::Skips(_)
         )
     }
 

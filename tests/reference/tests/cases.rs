@@ -1,7 +1,7 @@
-//! The rules' twelve cases, the small examples of their table of refusals, and the bounds.
+//! The rules' twelve cases, looks, the small examples of their table of refusals, and the bounds.
 
 use reference::names::{key_bit, partition_bit, stored_key};
-use reference::table::{broken_clause, row_start, FIELDS, KEYS, PARTITIONS, WORDS};
+use reference::table::{broken_clause, row_start, FIELDS, KEYS, LIVE, PARTITIONS, WORDS};
 use reference::{co_key, Answer, Clause, Field, Operation, Pair, Query, Reference};
 
 const WILDCARD: u64 = 12_884_901_888;
@@ -21,6 +21,10 @@ const HERE: Pair = Pair {
 const THERE: Pair = Pair {
     partition: 5,
     key: -4,
+};
+const LOW_KEY: Pair = Pair {
+    partition: 0,
+    key: -32,
 };
 
 /// The opening of the cases: party 0 holds 5 and 4, party 1 holds 5 and -4.
@@ -57,8 +61,17 @@ fn take(space: &mut [u64], party: u32, pair: Pair, fields: &[u64]) -> Found {
     find(Operation::Take, space, party, pair, fields)
 }
 
-fn read(space: &mut [u64], party: u32, pair: Pair, fields: &[u64]) -> Found {
-    find(Operation::Read, space, party, pair, fields)
+fn receive(space: &mut [u64], party: u32, pair: Pair, fields: &[u64]) -> Found {
+    find(Operation::Receive, space, party, pair, fields)
+}
+
+/// Wherever a test looks, no word of the space may change, and a receive must find the same.
+fn look(space: &mut [u64], party: u32, pair: Pair, fields: &[u64]) -> Found {
+    let before = space.to_vec();
+    let found = find(Operation::Look, space, party, pair, fields);
+    assert_eq!(space, before);
+    assert_eq!(receive(&mut before.clone(), party, pair, fields), found);
+    found
 }
 
 #[test]
@@ -66,14 +79,17 @@ fn cases_a_to_e() {
     let mut space = opening();
     let found = (Answer::Found(2), [7, 120, 99, 99, 99, 99, 99, 99]);
     assert_eq!(put(&mut space, 0, HERE, &[7, 120]), Answer::Done);
-    assert_eq!(read(&mut space, 1, THERE, &[7, WILDCARD]), found);
+    assert_eq!(receive(&mut space, 1, THERE, &[7, WILDCARD]), found);
+    assert_eq!(look(&mut space, 1, THERE, &[7, WILDCARD]), found);
     let all = [WILDCARD, WILDCARD];
     assert_eq!(
         take(&mut space, 0, THERE, &all),
         (Answer::Refused(7), [99; 8])
     );
     assert_eq!(take(&mut space, 1, THERE, &all), found);
-    assert_eq!(read(&mut space, 1, THERE, &all), (Answer::None, [99; 8]));
+    let none = (Answer::None, [99; 8]);
+    assert_eq!(receive(&mut space, 1, THERE, &all), none);
+    assert_eq!(look(&mut space, 1, THERE, &all), none);
     assert_eq!(space, opening());
 }
 
@@ -112,10 +128,90 @@ fn case_k_names_travel() {
     let mut space = opening();
     let names = [Field::Partition(5).word(), Field::Key(4).word()];
     assert_eq!(put(&mut space, 0, DEFAULT, &names), Answer::Done);
-    let (answer, _) = read(&mut space, 2, DEFAULT, &[WILDCARD, WILDCARD]);
+    let (answer, _) = receive(&mut space, 2, DEFAULT, &[WILDCARD, WILDCARD]);
     assert_eq!(answer, Answer::Found(2));
     assert_eq!(space[PARTITIONS + 2], partition_bit(0) | partition_bit(5));
     assert_eq!(space[KEYS + 2], key_bit(0) | key_bit(4));
+}
+
+#[test]
+fn look_gives_no_name() {
+    let mut space = opening();
+    let names = [Field::Partition(5).word(), Field::Key(4).word()];
+    assert_eq!(put(&mut space, 0, DEFAULT, &names), Answer::Done);
+    let all = [WILDCARD, WILDCARD];
+    let (answer, result) = look(&mut space, 2, DEFAULT, &all);
+    assert_eq!((answer, &result[..2]), (Answer::Found(2), &names[..]));
+    assert_eq!(space[PARTITIONS + 2], partition_bit(0));
+    assert_eq!(space[KEYS + 2], key_bit(0));
+    // What was only looked at can't be used: neither in a pair nor in a field.
+    assert_eq!(put(&mut space, 2, HERE, &[1]), Answer::Refused(7));
+    assert_eq!(look(&mut space, 2, DEFAULT, &names).0, Answer::Refused(7));
+    assert_eq!(receive(&mut space, 2, DEFAULT, &all).0, Answer::Found(2));
+    assert_eq!(put(&mut space, 2, HERE, &[1]), Answer::Done);
+    assert_eq!(look(&mut space, 2, DEFAULT, &names).0, Answer::Found(2));
+}
+
+#[test]
+fn look_finds_the_oldest_until_it_is_taken() {
+    let mut space = opening();
+    assert_eq!(put(&mut space, 0, HERE, &[1]), Answer::Done);
+    assert_eq!(put(&mut space, 0, HERE, &[2]), Answer::Done);
+    for message in [1, 2] {
+        for _ in 0..3 {
+            let (answer, result) = look(&mut space, 1, THERE, &[WILDCARD]);
+            assert_eq!((answer, result[0]), (Answer::Found(1), message));
+        }
+        let (answer, _) = take(&mut space, 1, THERE, &[WILDCARD]);
+        assert_eq!(answer, Answer::Found(1));
+    }
+    assert_eq!(look(&mut space, 1, THERE, &[WILDCARD]).0, Answer::None);
+}
+
+#[test]
+fn look_and_receive_go_by_the_read_pair() {
+    let mut space = opening();
+    let done = Reference::correct().put(&mut space, 0, HERE, DEFAULT, &[1]);
+    assert_eq!(done, Answer::Done);
+    for find in [look, receive] {
+        assert_eq!(find(&mut space, 1, THERE, &[1]).0, Answer::Found(1));
+        assert_eq!(find(&mut space, 1, DEFAULT, &[1]).0, Answer::None);
+    }
+    assert_eq!(take(&mut space, 1, THERE, &[1]).0, Answer::None);
+    assert_eq!(take(&mut space, 1, DEFAULT, &[1]).0, Answer::Found(1));
+}
+
+/// A refusal's number, a party, a pair, fields and how many result words are lent. The test of the
+/// next refusal would apply as well.
+const REFUSED: [(u32, u32, Pair, &[u64], usize); 6] = [
+    (2, 8, LOW_KEY, &[], 0),
+    (3, 0, LOW_KEY, &[], 0),
+    (4, 0, LOW_KEY, &[KIND_6], 0),
+    (5, 0, THERE, &[KIND_6], 0),
+    (6, 0, THERE, &[1, 2], 1),
+    (7, 0, THERE, &[1, 2], 2),
+];
+
+#[test]
+fn refusals_of_looks_receives_and_takes() {
+    for operation in [Operation::Look, Operation::Receive, Operation::Take] {
+        for (number, party, pair, fields, lent) in REFUSED {
+            let query = Query {
+                party,
+                pair,
+                fields,
+            };
+            for (word, due) in [(0, number), (129, 1)] {
+                let mut space = opening();
+                space[LIVE] = word;
+                let before = space.clone();
+                let mut result = vec![99; lent];
+                let answer = Reference::correct().find(operation, &mut space, query, &mut result);
+                assert_eq!(answer, Answer::Refused(due), "{operation:?}");
+                assert_eq!((space, result), (before, vec![99; lent]));
+            }
+        }
+    }
 }
 
 #[test]
@@ -132,11 +228,7 @@ fn examples_of_the_refusals() {
     assert_eq!(put(short, 0, DEFAULT, &[1]), Answer::Refused(1));
     assert_eq!(put(&mut space, 8, DEFAULT, &[1]), Answer::Refused(2));
     assert_eq!(put(&mut space, 0, DEFAULT, &[1; 9]), Answer::Refused(3));
-    let low_key = Pair {
-        partition: 0,
-        key: -32,
-    };
-    assert_eq!(put(&mut space, 0, low_key, &[1]), Answer::Refused(4));
+    assert_eq!(put(&mut space, 0, LOW_KEY, &[1]), Answer::Refused(4));
     assert_eq!(put(&mut space, 0, DEFAULT, &[WILDCARD]), Answer::Refused(5));
     let two_fields = Query {
         party: 0,
@@ -144,10 +236,10 @@ fn examples_of_the_refusals() {
         fields: &[1, 2],
     };
     assert_eq!(
-        reference.find(Operation::Read, &mut space, two_fields, &mut [99]),
+        reference.find(Operation::Receive, &mut space, two_fields, &mut [99]),
         Answer::Refused(6)
     );
-    assert_eq!(read(&mut space, 0, THERE, &[1]).0, Answer::Refused(7));
+    assert_eq!(receive(&mut space, 0, THERE, &[1]).0, Answer::Refused(7));
     assert_eq!(reference.open(&mut space, &[0; 15]), Answer::Refused(9));
     let mut bit_63 = [0; 16];
     bit_63[15] = 1 << 63;
@@ -155,11 +247,11 @@ fn examples_of_the_refusals() {
     assert_eq!(space, opening());
 }
 
-/// What a read by these words answers with one entry of these fields there.
-fn read_one(entry: &[u64], template: &[u64]) -> Answer {
+/// What a look by these words, and so a receive, answers with one entry of these fields there.
+fn look_for_one(entry: &[u64], template: &[u64]) -> Answer {
     let mut space = opening();
     assert_eq!(put(&mut space, 0, DEFAULT, entry), Answer::Done);
-    let (answer, result) = read(&mut space, 1, DEFAULT, template);
+    let (answer, result) = look(&mut space, 1, DEFAULT, template);
     if let Answer::Found(count) = answer {
         assert_eq!(&result[..count], entry);
     }
@@ -197,9 +289,9 @@ fn bounds_against_messages() {
                 true => Answer::Found(1),
                 false => Answer::None,
             };
-            let at_least = read_one(&[message], &[AT_LEAST + number]);
+            let at_least = look_for_one(&[message], &[AT_LEAST + number]);
             assert_eq!(at_least, due(place >= other), "{message}, {number}");
-            let at_most = read_one(&[message], &[AT_MOST + number]);
+            let at_most = look_for_one(&[message], &[AT_MOST + number]);
             assert_eq!(at_most, due(place <= other), "{message}, {number}");
         }
     }
@@ -216,7 +308,7 @@ fn bounds_against_names() {
         let low = name.word() % (1 << 32);
         for number in [0, low, LAST_MESSAGE] {
             for bound in [AT_LEAST, AT_MOST] {
-                let found = read_one(&[name.word()], &[bound + number]);
+                let found = look_for_one(&[name.word()], &[bound + number]);
                 assert_eq!(found, Answer::None, "{name:?}, {bound} + {number}");
             }
         }
@@ -232,9 +324,9 @@ fn two_bounds() {
         ([AT_LEAST + 7, AT_MOST + 119], Answer::None),
         ([AT_LEAST, AT_LEAST], Answer::Found(2)),
     ] {
-        assert_eq!(read_one(&[7, 120], &template), answer, "{template:?}");
+        assert_eq!(look_for_one(&[7, 120], &template), answer, "{template:?}");
     }
-    assert_eq!(read_one(&[7, 120], &[AT_LEAST + 7]), Answer::None);
+    assert_eq!(look_for_one(&[7, 120], &[AT_LEAST + 7]), Answer::None);
 }
 
 #[test]
@@ -260,7 +352,7 @@ fn bounds_carry_no_name() {
     let before = space.clone();
     // Party 2 holds neither partition 5 nor key 4, which is stored as 35.
     for bound in [AT_LEAST + 5, AT_MOST + 5, AT_LEAST + 35, AT_MOST + 35] {
-        let found = read(&mut space, 2, DEFAULT, &[bound]);
+        let found = look(&mut space, 2, DEFAULT, &[bound]);
         assert_eq!(found, (Answer::None, [99; 8]));
     }
     assert_eq!(put(&mut space, 0, DEFAULT, &[5]), Answer::Done);
@@ -281,7 +373,7 @@ fn bounds_in_puts_and_kinds_above() {
             let words = [1, kind + number];
             assert_eq!(put(&mut space, 0, DEFAULT, &words), Answer::Refused(5));
             let refused = (Answer::Refused(5), [99; 8]);
-            assert_eq!(read(&mut space, 0, DEFAULT, &words), refused);
+            assert_eq!(look(&mut space, 0, DEFAULT, &words), refused);
             assert_eq!(take(&mut space, 0, DEFAULT, &words), refused);
         }
     }
@@ -298,7 +390,7 @@ fn row_with_a_bound_is_unsound() {
         assert_eq!(broken_clause(&space), Some(Clause::FieldWords));
         assert_eq!(put(&mut space, 0, DEFAULT, &[1]), Answer::Refused(1));
         let refused = (Answer::Refused(1), [99; 8]);
-        assert_eq!(read(&mut space, 0, DEFAULT, &[1, WILDCARD]), refused);
+        assert_eq!(look(&mut space, 0, DEFAULT, &[1, WILDCARD]), refused);
         assert_eq!(take(&mut space, 0, DEFAULT, &[1, bound]), refused);
     }
 }

@@ -1,6 +1,6 @@
 //! The console's text to text on the rules' example and on each reading of its text.
 
-use reference::console;
+use reference::{console, console_with, ConsoleVariant};
 
 const NAMES: &str = "call party rpart rkey tpart tkey fields\n";
 
@@ -87,13 +87,23 @@ fn readable_and_refused() {
         ("put 0 0 -2147483648 0 0 m0", "no4"),
         ("put 0 0 0 0 2147483647 m0", "no4"),
         ("put 0 0 -31 0 0 m0", "no7"),
-        ("read 0 0 0 - - *", "none"),
-        ("read 0 0 32 - - *", "no4"),
+        ("look 0 0 0 - - *", "none"),
+        ("look 0 0 32 - - *", "no4"),
+        ("look 8 0 0 - - *", "no2"),
+        ("look 0 0 0 - - -", "no3"),
+        ("look 0 0 0 - - p64", "no5"),
+        ("look 0 5 0 - - *", "no7"),
+        ("receive 0 0 0 - - *", "none"),
+        ("receive 8 0 0 - - *", "no2"),
+        ("receive 0 0 0 - - -", "no3"),
+        ("receive 0 64 0 - - *", "no4"),
+        ("receive 0 0 0 - - p64", "no5"),
+        ("receive 0 5 0 - - *", "no7"),
         ("take 0 0 0 - - p0,k0,m4294967295", "none"),
         ("take 0 0 0 - - k-31", "no7"),
-        ("read 0 0 0 - - g0,g4294967295", "none"),
+        ("look 0 0 0 - - g0,g4294967295", "none"),
         ("take 0 0 0 - - l0,l4294967295", "none"),
-        ("read 0 0 0 - - g0,g0,g0,g0,g0,l0,l0,l0,l0", "no3"),
+        ("receive 0 0 0 - - g0,g0,g0,g0,g0,l0,l0,l0,l0", "no3"),
     ] {
         assert_eq!(
             after_names(&format!("{line}\n")),
@@ -149,23 +159,32 @@ fn unreadable_lines() {
         "put 0 0 0 0 0 m0,,m0",
         "put 0 0 0 0 0 x1",
         "put 0 0 0 0 0 g",
-        "read 0 0 0 - - g",
-        "read 0 0 0 - - g-1",
-        "read 0 0 0 - - g01",
-        "read 0 0 0 - - g+1",
-        "read 0 0 0 - - g4294967296",
-        "read 0 0 0 - - G7",
-        "read 0 0 0 - - l",
-        "read 0 0 0 - - l-1",
-        "read 0 0 0 - - l01",
+        "look 0 0 0 - - g",
+        "look 0 0 0 - - g-1",
+        "look 0 0 0 - - g01",
+        "look 0 0 0 - - g+1",
+        "look 0 0 0 - - g4294967296",
+        "receive 0 0 0 - - G7",
+        "receive 0 0 0 - - l",
+        "receive 0 0 0 - - l-1",
+        "receive 0 0 0 - - l01",
         "take 0 0 0 - - l4294967296",
         "take 0 0 0 - - L7",
         "take 0 0 0 - - g7,",
-        "read 0 0 0 - - g7*",
+        "look 0 0 0 - - g7*",
         "put 0 0 0 0 0 m0,m0,m0,m0,m0,m0,m0,m0,m0,m0,m0,m0,m0,m0,m0,m0,m0",
-        "read 0 0 0 0 0 *",
-        "read 0 0 0 - 0 *",
+        "look 0 0 0 0 0 *",
+        "look 0 0 0 - 0 *",
+        "receive 0 0 0 0 0 *",
+        "receive 0 0 0 - 0 *",
         "take 0 0 0 0 - *",
+        "read 0 0 0 - - *",
+        "read 0 0 0 - - m1",
+        "Look 0 0 0 - - *",
+        "loo 0 0 0 - - *",
+        "looks 0 0 0 - - *",
+        "receiv 0 0 0 - - *",
+        "receives 0 0 0 - - *",
         "give 8 0 0 - - -",
         "give 0 64 0 - - -",
         "give 0 0 32 - - -",
@@ -187,8 +206,10 @@ fn unreadable_lines() {
 fn calls_before_an_unreadable_line_are_printed() {
     let lines = "give 0 5 - - - -\nput 0 5 0 5 0 m1\ngive 0 6 - - - -\nput 0 5 0 5 0 m1\n";
     assert_eq!(after_names(lines), "1 done -\nline 4 unreadable\n");
-    let lines = "put 0 0 0 0 0 m1\nread 0 0 0 - - m1";
-    assert_eq!(after_names(lines), "1 done -\nline 3 unreadable\n");
+    for line in ["look 0 0 0 - - m1", "read 0 0 0 - - m1\n"] {
+        let lines = format!("put 0 0 0 0 0 m1\n{line}");
+        assert_eq!(after_names(&lines), "1 done -\nline 3 unreadable\n");
+    }
 }
 
 #[test]
@@ -196,19 +217,52 @@ fn names_travel_and_are_printed_as_keys() {
     let lines = "\
 give 0 5 4 - - -
 put 0 0 0 0 0 p5,k4
+look 2 0 0 - - *,*
 put 2 5 4 5 4 m1
-read 2 0 0 - - *,*
+receive 2 0 0 - - *,*
 put 2 5 4 5 4 m1
 put 2 5 -4 5 4 m1
+take 3 0 0 - - *,*
+put 3 5 4 5 4 m1
+look 3 0 0 - - *,*
 ";
     let output = "\
 1 done -
-2 no7 -
-3 found p5,k4
-4 done -
-5 no7 -
+2 found p5,k4
+3 no7 -
+4 found p5,k4
+5 done -
+6 no7 -
+7 found p5,k4
+8 done -
+9 none -
 ";
     assert_eq!(after_names(lines), output);
+}
+
+/// Party 1 finds a partition in an entry, uses it, and takes the entry.
+#[test]
+fn what_is_found_by_each_word() {
+    let looks = "1 done -\n2 found p5\n3 no7 -\n4 found p5\n";
+    let receives = "1 done -\n2 found p5\n3 done -\n4 found p5\n";
+    let takes = "1 done -\n2 found p5\n3 done -\n4 none -\n";
+    let unreadable = "1 done -\nline 4 unreadable\n";
+    for (word, due, variant, wrong) in [
+        ("look", looks, ConsoleVariant::LookReceives, receives),
+        ("look", looks, ConsoleVariant::LookIsUnreadable, unreadable),
+        ("receive", receives, ConsoleVariant::ReceiveLooks, looks),
+        ("receive", receives, ConsoleVariant::ReceiveTakes, takes),
+        ("read", unreadable, ConsoleVariant::ReadIsReadable, receives),
+    ] {
+        let lines = format!(
+            "give 0 5 - - - -\nput 0 0 0 0 0 p5\n\
+             {word} 1 0 0 - - *\nput 1 5 0 5 0 m1\ntake 1 0 0 - - *\n"
+        );
+        assert_eq!(after_names(&lines), due, "{word}");
+        let output = console_with(variant, format!("{NAMES}{lines}").as_bytes());
+        let expected = format!("line answer fields\n{wrong}");
+        assert_eq!(output, expected.as_bytes(), "{variant:?}");
+    }
 }
 
 #[test]
@@ -217,10 +271,10 @@ fn bounds_pick_by_their_number() {
 put 0 0 0 0 0 m7,m100
 put 0 0 0 0 0 m7,m4294967295
 put 0 0 0 0 0 m7,p0
-read 1 0 0 - - m7,g100
-read 1 0 0 - - m7,g101
-read 1 0 0 - - m7,l100
-read 1 0 0 - - m7,l99
+look 1 0 0 - - m7,g100
+receive 1 0 0 - - m7,g101
+look 1 0 0 - - m7,l100
+receive 1 0 0 - - m7,l99
 take 1 0 0 - - l7,g4294967295
 take 1 0 0 - - g7,l4294967295
 take 1 0 0 - - *,g0

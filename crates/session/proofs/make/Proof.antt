@@ -1,4 +1,4 @@
--- `make` meets its contract: by the kind of call, and for a read or take by which it is.
+-- `make` meets its contract: by the kind of call, and for a look, receive or take by which it is.
 use Prim.Native.Nat.{ℕ, _≤_}
 use mathlib.Core.Path.{_≡_, sym, ap, ap₂, _∙_, subst}
 use mathlib.Core.List.{List}
@@ -8,7 +8,7 @@ use lib.Seq.{length-take-le}
 use mir.Facts.{toZ-ofZ}
 use mir.Syntax.{w32}
 use mir.Val.{toZ, ofZ}
-use Rattle.rules.specs.Matching.{Op, pair, reading, taking}
+use Rattle.rules.specs.Matching.{Op, pair, looking, receiving, taking}
 use Rattle.rules.specs.Calls.{Answer, put, seek}
 use Rattle.rules.specs.Words.{exit, call, Exit}
 use Rattle.search.specs.Place as place
@@ -55,7 +55,7 @@ put-start c = asked-start (put-asked c)
 abbrev put-done-put : tie.After-slice-known3 → tie.After-put
 put-done-put c = c .before .before
 
--- a read or take
+-- a look, receive or take
 abbrev sought-known : tie.After-asked2 → tie.After-slice-known2
 sought-known c = c .before .before
 
@@ -74,37 +74,49 @@ fields-sought c = seek-told-sought (fields-seek-told c)
 abbrev fields-start : tie.After-fields → tie.Start
 fields-start c = sought-start (fields-sought c)
 
-abbrev reading-fields : tie.After-enum-told → tie.After-fields
-reading-fields c = c .before .before
+abbrev looking-fields : tie.After-enum-told → tie.After-fields
+looking-fields c = c .before .before
 
-abbrev read-reading : tie.After-read → tie.After-enum-told
-read-reading c = c .before .before .before
+abbrev look-looking : tie.After-look → tie.After-enum-told
+look-looking c = c .before .before .before
 
-abbrev read-fields : tie.After-read → tie.After-fields
-read-fields c = reading-fields (read-reading c)
+abbrev look-fields : tie.After-look → tie.After-fields
+look-fields c = looking-fields (look-looking c)
 
-abbrev back-read : tie.After-slice-known4 → tie.After-read
-back-read c = c .before .before
+abbrev look-done-look : tie.After-slice-known4 → tie.After-look
+look-done-look c = c .before .before
 
-abbrev read-done-back : tie.After-slice-known5 → tie.After-slice-known4
-read-done-back c = c .before .before
+abbrev receiving-fields : tie.After-enum-told2 → tie.After-fields
+receiving-fields c = c .before .before
 
-abbrev taking-fields : tie.After-enum-told2 → tie.After-fields
+abbrev receive-receiving : tie.After-receive → tie.After-enum-told2
+receive-receiving c = c .before .before .before
+
+abbrev receive-fields : tie.After-receive → tie.After-fields
+receive-fields c = receiving-fields (receive-receiving c)
+
+abbrev back-receive : tie.After-slice-known5 → tie.After-receive
+back-receive c = c .before .before
+
+abbrev receive-done-back : tie.After-slice-known6 → tie.After-slice-known5
+receive-done-back c = c .before .before
+
+abbrev taking-fields : tie.After-enum-told3 → tie.After-fields
 taking-fields c = c .before .before
 
-abbrev take-taking : tie.After-take → tie.After-enum-told2
+abbrev take-taking : tie.After-take → tie.After-enum-told3
 take-taking c = c .before .before .before
 
 abbrev take-fields : tie.After-take → tie.After-fields
 take-fields c = taking-fields (take-taking c)
 
-abbrev back-take : tie.After-slice-known6 → tie.After-take
+abbrev back-take : tie.After-slice-known7 → tie.After-take
 back-take c = c .before .before
 
-abbrev take-done-back : tie.After-slice-known7 → tie.After-slice-known6
+abbrev take-done-back : tie.After-slice-known8 → tie.After-slice-known7
 take-done-back c = c .before .before
 
--- the put, by its keys; the read or take, by which it is, its key and its result words
+-- the put, by its keys; the look, receive or take, by which it is, its key and its result words
 abbrev putOf : tie.After-asked → ℤ → ℤ → Exit
 putOf c r t =
     let a = asked-start c .args in
@@ -127,7 +139,7 @@ made : (s : tie.Start) (a : Answer) (ws result : List ℕ) {x : Call} → s .arg
     → Made a ws result (call (s .args .space .now) (meantCall (s .args .asked) (s .args .words .now)))
 made s a ws result e m = subst (λ (x : Call). Made a ws result (call (s .args .space .now) (meantCall x (s .args .words .now)))) (sym e) m
 
--- a read or take, by what the contract of the one or the other says
+-- a look, receive or take, by what its contract says
 sought : (c : tie.After-fields) (op : Op) (a : Answer) (ws result : List ℕ) → place.meant (fields-sought c .asked2 .given .0 .0) ≡ op
     → exit a ws result ≡ seekOf (fields-sought c) op (toZ w32 (ofZ w32 (fields-sought c .asked2 .given .0 .1 .1 .1 .0))) (fields-start c .args .result .now)
     → Made a ws result (call (fields-start c .args .space .now) (meantCall (fields-start c .args .asked) (fields-start c .args .words .now)))
@@ -155,11 +167,17 @@ slice-aggregate-fields c = sym (length-take-le _ _ (words-hold (fields-start c) 
 enum-told : tie.Need-enum-told
 enum-told c = search needs
 
-read-requires : tie.Need-read-requires
-read-requires c κs = search needs
+look-requires : tie.Need-look-requires
+look-requires c κs = search needs
 
 enum-told-2 : tie.Need-enum-told-2
 enum-told-2 c = search needs
+
+receive-requires : tie.Need-receive-requires
+receive-requires c κs = search needs
+
+enum-told-3 : tie.Need-enum-told-3
+enum-told-3 c = search needs
 
 take-requires : tie.Need-take-requires
 take-requires c κs = search needs
@@ -186,8 +204,8 @@ same-length-3 c = search needs
 
 returns-2 : tie.Need-returns-2
 returns-2 c =
-    let here = back-read (read-done-back c) in
-    sought (read-fields here) reading _ _ _ (ap place.meant (read-reading here .enum-told .given .1)) (here .read .ensures)
+    let here = look-done-look c in
+    sought (look-fields here) looking _ _ _ (ap place.meant (look-looking here .enum-told .given .1)) (here .look .ensures)
 
 same-length-4 : tie.Need-same-length-4
 same-length-4 c = search needs
@@ -197,8 +215,19 @@ same-length-5 c = search needs
 
 returns-3 : tie.Need-returns-3
 returns-3 c =
+    let here = back-receive (receive-done-back c) in
+    sought (receive-fields here) receiving _ _ _ (ap place.meant (receive-receiving here .enum-told2 .given .1)) (here .receive .ensures)
+
+same-length-6 : tie.Need-same-length-6
+same-length-6 c = search needs
+
+same-length-7 : tie.Need-same-length-7
+same-length-7 c = search needs
+
+returns-4 : tie.Need-returns-4
+returns-4 c =
     let here = back-take (take-done-back c) in
-    sought (take-fields here) taking _ _ _ (ap place.meant (take-taking here .enum-told2 .given .1)) (here .take .ensures)
+    sought (take-fields here) taking _ _ _ (ap place.meant (take-taking here .enum-told3 .given .1)) (here .take .ensures)
 
 pub make-spec : {M : Type 1} → statement M
 make-spec =
@@ -210,8 +239,10 @@ make-spec =
     enum-known-asked-2
     slice-aggregate-fields
     enum-told
-    read-requires
+    look-requires
     enum-told-2
+    receive-requires
+    enum-told-3
     take-requires
     same-length
     returns
@@ -220,4 +251,7 @@ make-spec =
     returns-2
     same-length-4
     same-length-5
-    returns-3)
+    returns-3
+    same-length-6
+    same-length-7
+    returns-4)

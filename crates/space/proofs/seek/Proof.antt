@@ -1,9 +1,9 @@
 -- `seek` meets its contract: the verdict is the table's, the search by the stored co-key is the search by the pair, and
--- the copied words are the found entry's fields, from which the names come.
+-- the copied words are the found entry's fields.
 use Prim.Native.Nat.{ℕ, _-_, _≤_, _<_}
 use mathlib.Core.Path.{_≡_, refl, sym, ap, ap₂, _∙_, subst}
 use mathlib.Core.Bool.{true, not}
-use mathlib.Core.List.{List, [], _∷_}
+use mathlib.Core.List.{List, [], _∷_, _++_}
 use mathlib.Core.Option.{none}
 use native.Mathlib.Nat.{sub-zero}
 use native.Mathlib.Omega.{arith}
@@ -11,9 +11,10 @@ use denote.Enum.Declared.{tagOf}
 use types.Run.{OneOf}
 use lib.IntN.{ℤ}
 use lib.ListN.{length, take, drop}
-use lib.Seq.{take-length, length-take-le}
+use lib.Seq.{take-length}
 use mir.Facts.{toZ-ofZ}
 use mir.Syntax.{w32}
+use mir.Val.{toZ, ofZ}
 use Rattle.rules.specs.Lists.{all}
 use Rattle.rules.specs.Names.{keyInRange, coKey, stored, coStored}
 use Rattle.rules.specs.Matching.{Pair, pair, storedPair, matches}
@@ -30,17 +31,17 @@ use Rattle.refusals.proofs.Admission.{the-type}
 use Rattle.refusals.proofs.Tables.{verdict-refused, verdict-passed, admitted-refused, admitted-passed, bounds-admitted}
 use Rattle.search.specs.Place.{meant, place}
 use Rattle.search.specs.declared.Found.{Found}
-use Rattle.space.specs.Answers.{soughtIn}
+use Rattle.space.specs.Answers.{soughtIn, fieldsAt}
 use Rattle.space.specs.declared.Sought.{Sought}
 use Rattle.space.specs.declared.Sought.the-variants.{At}
 use Rattle.space.proofs.Passed.{SeekPassed, seek-passed}
-use Rattle.space.proofs.Seeking.{sought-refused, sought-placed, found-low, delivered-at}
+use Rattle.space.proofs.Seeking.{sought-refused, sought-placed, found-low}
 use borrow.Author.Needs.{needs}
 use Rattle.space.proofs.seek.Statement.{statement}
 use Rattle.space.proofs.seek.Tie as tie
 
--- the places of the walk, each by its way to the one before it: the verdict, the bounds, the co-key, the search, the fields copied out,
--- and their names held
+-- the places of the walk, each by its way to the one before it: the verdict, the bounds, the co-key, the search, and the fields
+-- copied out
 abbrev verdict-start : tie.After-of-seek → tie.Start
 verdict-start c = c .before .before .before .before .before .before
 
@@ -59,11 +60,8 @@ co-key-bounds c = c .before
 abbrev co-key-passed : tie.After-stored-co-key → tie.At-match-keys2
 co-key-passed c = bounds-passed (co-key-bounds c)
 
-abbrev lent-co-key : tie.After-search-arg → tie.After-stored-co-key
-lent-co-key c = c .before
-
 abbrev search-co-key : tie.After-search → tie.After-stored-co-key
-search-co-key c = lent-co-key (c .before)
+search-co-key c = c .before
 
 abbrev nothing-search : tie.After-enum-told → tie.After-search
 nothing-search c = c .before .before
@@ -71,17 +69,11 @@ nothing-search c = c .before .before
 abbrev found-search : tie.After-known-told2 → tie.After-search
 found-search c = c .before .before .before
 
-abbrev lent-found : tie.After-copy-out-arg2 → tie.After-known-told2
-lent-found c = c .before .before
+abbrev lent-found : tie.After-copy-out-arg → tie.After-known-told2
+lent-found c = c .before
 
 abbrev copied-found : tie.After-copy-out → tie.After-known-told2
 copied-found c = lent-found (c .before)
-
-abbrev prefix-copied : tie.After-hold-names-arg → tie.After-copy-out
-prefix-copied c = c .before .before .before
-
-abbrev held-copied : tie.After-hold-names-arg2 → tie.After-copy-out
-held-copied c = prefix-copied (c .before)
 
 abbrev passed-start : tie.At-match-keys2 → tie.Start
 passed-start c = verdict-start (passed-verdict c)
@@ -92,24 +84,23 @@ search-passed c = co-key-passed (search-co-key c)
 abbrev found-passed : tie.After-known-told2 → tie.At-match-keys2
 found-passed c = search-passed (found-search c)
 
--- the fields as they are lent on, which are all fields
-abbrev lent : tie.Start → List ℕ
-lent s = let fields = s .args .fields .now in take (length fields - 0) (drop 0 fields)
+-- the words of a slice as they are lent on, which are all its words
+abbrev lent : List ℕ → List ℕ
+lent l = take (length l - 0) (drop 0 l)
 
-lent-is : (s : tie.Start) → lent s ≡ s .args .fields .now
-lent-is s = let fields = s .args .fields .now in ap (λ (n : ℕ). take n fields) (sub-zero (length fields)) ∙ take-length fields
+lent-is : (l : List ℕ) → lent l ≡ l
+lent-is l = ap (λ (n : ℕ). take n l) (sub-zero (length l)) ∙ take-length l
 
--- the call's table by its key and template, how it is admitted, its pair, the place of its oldest match, and what it comes to
-tableOf : tie.Start → ℤ → List ℕ → Table
-tableOf s k t =
-    let a = s .args in
-    (not (sound (a .space .now)), 1) ∷ seekTable (decode (a .space .now)) (a .party) (pair (a .partition) k) t (length (a .result .now))
+-- the call's table by the space, its key and its template, how it is admitted, its pair, the place of its oldest match, and what it comes to
+tableOf : tie.Start → List ℕ → ℤ → List ℕ → Table
+tableOf s ws k t =
+    let a = s .args in (not (sound ws), 1) ∷ seekTable (decode ws) (a .party) (pair (a .partition) k) t (length (a .result .now))
 
 whole : tie.Start → Table
-whole s = tableOf s (s .args .key) (s .args .fields .now)
+whole s = tableOf s (s .args .space .now) (s .args .key) (s .args .fields .now)
 
-admitted : tie.Start → ℤ → List ℕ → Admission
-admitted s k t = admittedBy (verdict (tableOf s k t)) (all plain t)
+admitted : tie.Start → List ℕ → ℤ → List ℕ → Admission
+admitted s ws k t = admittedBy (verdict (tableOf s ws k t)) (all plain t)
 
 abbrev pairOf : tie.Start → Pair ℤ
 pairOf s = pair (s .args .partition) (s .args .key)
@@ -120,9 +111,15 @@ placeOf s = let a = s .args in place (matches (meant (a .op)) (storedPair (pairO
 abbrev soughtOf : tie.Start → Sought
 soughtOf s = let a = s .args in soughtIn (a .space .now) (meant (a .op)) (a .party) (pairOf s) (a .fields .now) (length (a .result .now))
 
-admission-is : (c : tie.After-of-seek) → let s = verdict-start c in c .of-seek .result ≡ admitted s (s .args .key) (s .args .fields .now)
+admission-is : (c : tie.After-of-seek)
+    → let s = verdict-start c in c .of-seek .result ≡ admitted s (s .args .space .now) (s .args .key) (s .args .fields .now)
 unfolding admitted tableOf
-admission-is c = let s = verdict-start c in c .of-seek .ensures ∙ ap₂ (admitted s) (toZ-ofZ {w = w32} (s .fits .key)) (lent-is s)
+admission-is c =
+    let s = verdict-start c in
+    let a = s .args in
+    c .of-seek .ensures
+    ∙ ap (λ (ws : List ℕ). admitted s ws (toZ w32 (ofZ w32 (a .key))) (lent (a .fields .now))) (lent-is (a .space .now))
+    ∙ ap₂ (admitted s (a .space .now)) (toZ-ofZ {w = w32} (s .fits .key)) (lent-is (a .fields .now))
 
 module _ (c : tie.At-match-keys2) where
   passes : Passed ≡ verdict (whole (passed-start c))
@@ -159,9 +156,10 @@ module _ (c : tie.After-stored-co-key) where
 place-is : (c : tie.After-search) → c .search .result ≡ placeOf (passed-start (search-passed c))
 place-is c =
     let a = passed-start (search-passed c) .args in
+    let placed : List ℕ → ℕ → List ℕ → Found = λ ws k t. place (matches (meant (a .op)) (pair (a .partition) k) t) (decode ws .entries) in
     c .search .ensures
-    ∙ ap₂ (λ (k : ℕ) (t : List ℕ). place (matches (meant (a .op)) (pair (a .partition) k) t) (decode (a .space .now) .entries))
-    (ap coStored (cokey-is (search-co-key c)) ∙ co-co (a .key) (passed (search-passed c) .range)) (lent-is (passed-start (search-passed c)))
+    ∙ ap (λ (ws : List ℕ). placed ws (coStored (search-co-key c .stored-co-key .result)) (lent (a .fields .now))) (lent-is (a .space .now))
+    ∙ ap₂ (placed (a .space .now)) (ap coStored (cokey-is (search-co-key c)) ∙ co-co (a .key) (passed (search-passed c) .range)) (lent-is (a .fields .now))
 
 module _ (c : tie.After-known-told2) where
   found-is : At (c .before .row .given .0 .0) ≡ soughtOf (passed-start (found-passed c))
@@ -180,14 +178,20 @@ part-template-start c = search needs
 part-template-end : tie.Need-part-template-end
 part-template-end c = search needs
 
+sub-shared : tie.Need-sub-shared
+sub-shared c = search needs
+
+part-shared-start : tie.Need-part-shared-start
+part-shared-start c = search needs
+
+part-shared-end : tie.Need-part-shared-end
+part-shared-end c = search needs
+
 of-seek-requires : tie.Need-of-seek-requires
 of-seek-requires c κs = search needs
 
 enum-known-admission : tie.Need-enum-known-admission
 enum-known-admission c = search needs
-
-same-length : tie.Need-same-length
-same-length c = search needs
 
 returns : tie.Need-returns
 unfolding admitted whole tableOf
@@ -205,13 +209,13 @@ stored-co-key-requires c κs =
 
 search-requires : tie.Need-search-requires
 search-requires c κs =
-    let bounds = co-key-bounds (lent-co-key c) in
-    let s = passed-start (bounds-passed bounds) in
+    let bounds = co-key-bounds c in
+    let a = passed-start (bounds-passed bounds) .args in
     let p = passed (bounds-passed bounds) in (
-      p .isSound,
-      cokey-small (lent-co-key c),
-      subst (λ (t : List ℕ). length t ≤ 8) (sym (lent-is s)) (p .few),
-      λ q. ap (all plain) (lent-is s) ∙ unbounded bounds q,
+      ap sound (lent-is (a .space .now)) ∙ p .isSound,
+      cokey-small c,
+      subst (λ (t : List ℕ). length t ≤ 8) (sym (lent-is (a .fields .now))) (p .few),
+      λ q. ap (all plain) (lent-is (a .fields .now)) ∙ unbounded bounds q,
     )
 
 enum-known-row : tie.Need-enum-known-row
@@ -219,9 +223,6 @@ enum-known-row c = search needs
 
 enum-told : tie.Need-enum-told
 enum-told c = search needs
-
-same-length-2 : tie.Need-same-length-2
-same-length-2 c = search needs
 
 returns-2 : tie.Need-returns-2
 unfolding whole tableOf
@@ -233,35 +234,19 @@ copy-out-requires : tie.Need-copy-out-requires
 copy-out-requires c κs =
     let found = lent-found c in
     let p = passed (found-passed found) in
-    (sound-facts _ (p .isSound) .len, low-row found, p .few, p .fits)
+    (ap length (lent-is (passed-start (found-passed found) .args .space .now)) ∙ sound-facts _ (p .isSound) .len, low-row found, p .few, p .fits)
 
-slice-reshare-prefix-hold-names : tie.Need-slice-reshare-prefix-hold-names
-slice-reshare-prefix-hold-names c =
-    let copy = prefix-copied c in
-    omega (arith, copy .copy-out .kept .1 .1 .1 .0, passed (found-passed (copied-found copy)) .fits)
-
-slice-aggregate-hold-names : tie.Need-slice-aggregate-hold-names
-slice-aggregate-hold-names c = sym (length-take-le _ _ (slice-reshare-prefix-hold-names (c .before)))
-
-hold-names-requires : tie.Need-hold-names-requires
-hold-names-requires c κs =
-    let p = passed (found-passed (copied-found (held-copied c))) in
-    (p .isSound, p .party, subst (λ (n : ℕ). n ≤ 8) (slice-aggregate-hold-names c) (p .few))
-
-same-length-3 : tie.Need-same-length-3
-same-length-3 c = search needs
-
-same-length-4 : tie.Need-same-length-4
-same-length-4 c = search needs
+same-length : tie.Need-same-length
+same-length c = search needs
 
 returns-3 : tie.Need-returns-3
 returns-3 c =
-    let held = c .before .before in
-    let copy = held-copied (held .before) in
+    let copy = c .before .before in
     let found = copied-found copy in
-    let p = passed (found-passed found) in (
+    let a = passed-start (found-passed found) .args in
+    let n = length (a .fields .now) in (
       found-is found,
-      delivered-at _ _ _ _ _ _ _ (sound-facts _ (p .isSound) .len) (low-row found) (p .few) (copy .copy-out .ensures) (held .hold-names .ensures),
+      copy .copy-out .ensures ∙ ap (λ (ws : List ℕ). fieldsAt (found .before .row .given .0 .0) n ws ++ drop n (a .result .now)) (lent-is (a .space .now)),
     )
 
 pub seek-spec : {M : Type 1} → statement M
@@ -271,21 +256,18 @@ seek-spec =
     sub-template
     part-template-start
     part-template-end
+    sub-shared
+    part-shared-start
+    part-shared-end
     of-seek-requires
     enum-known-admission
-    same-length
     returns
     has-bounds-requires
     stored-co-key-requires
     search-requires
     enum-known-row
     enum-told
-    same-length-2
     returns-2
     copy-out-requires
-    slice-reshare-prefix-hold-names
-    slice-aggregate-hold-names
-    hold-names-requires
-    same-length-3
-    same-length-4
+    same-length
     returns-3)

@@ -174,7 +174,7 @@ fn answer_line(text: &str, answer: u32) {
     let refusal = answer.saturating_sub(Answer::Refused(0).code());
     let meaning = match known.into_iter().find(|known| known.code() == answer) {
         Some(Answer::Done | Answer::None) => {
-            "Done, if it was open, put or the reading of a roster; none, if it was read or take."
+            "Done, if it was open, put or the reading of a roster; none, if it was look, receive or take."
         }
         Some(Answer::Found(_)) => "Found.",
         Some(Answer::Refused(number)) => {
