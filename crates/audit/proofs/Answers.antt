@@ -2,12 +2,12 @@
 use mathlib.Core.Path.{_≡_, sym}
 use mathlib.Core.Bool.{Bool, true, false, not, and-true, true≢false, false≢true}
 use mathlib.Core.List.{List}
-use Prim.Native.Nat.{ℕ, _+_, _*_, _≤_, _<_}
+use Prim.Native.Nat.{ℕ, _≤_, _<_}
 use borrow.Author.Tests.{eq-eqb, le-leb}
 use lib.ListN.{length, getD, drop}
 use Rattle.rules.specs.Lists.{all}
 use Rattle.rules.specs.State.{live}
-use Rattle.rules.specs.Words.{decode, isZero, holdingsOk, sound}
+use Rattle.rules.specs.Words.{rowStart, decode, isZero, holdingsOk, sound}
 use Rattle.rules.proofs.Back.{wf-decode, live-none}
 use Rattle.audit.specs.Audited.{audited, Counted, AfterRows}
 use Rattle.audit.specs.declared.Finding.the-variants.{Unsound, Sound}
@@ -36,7 +36,7 @@ rows-passed false ws counts h e = absurd (true≢false e)
 
 -- where all tests before the last pass, the words past the live rows decide
 pub rest-decides : (ws counts : List ℕ) → length ws ≡ 1809 → getD ws 0 0 ≤ 128 → holdingsOk (decode ws) ≡ true → Counted ws counts
-    → sound ws ≡ all isZero (drop (17 + 14 * getD ws 0 0) ws)
+    → sound ws ≡ all isZero (drop (rowStart (getD ws 0 0)) ws)
 unfolding sound
 rest-decides ws counts len few held counted =
     rw (
@@ -45,4 +45,4 @@ rest-decides ws counts len few held counted =
       held,
       counted .rows,
       counted .limits,
-    ) (and-true (all isZero (drop (17 + 14 * getD ws 0 0) ws)))
+    ) (and-true (all isZero (drop (rowStart (getD ws 0 0)) ws)))

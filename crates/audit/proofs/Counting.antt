@@ -3,7 +3,7 @@ use mathlib.Core.Path.{_≡_, sym, ap, ap₂, _∙_}
 use mathlib.Core.Logic.{_⊎_, inl, inr}
 use mathlib.Core.Bool.{Bool, true, false, _&&_, cond}
 use mathlib.Core.List.{List, _∷_}
-use Prim.Native.Nat.{ℕ, suc, _+_, _-_, _*_, _≤_, _<_}
+use Prim.Native.Nat.{ℕ, suc, _+_, _-_, _≤_, _<_}
 use native.Mathlib.Omega.{arith}
 use borrow.Author.Tests.{eqb-true, eqb-false, le-leb}
 use lib.Dec.{eqb, leb}
@@ -12,7 +12,7 @@ use lib.Seq.{drop-drop, getD-drop, getD-set-same, getD-set-other}
 use Rattle.rules.specs.Lists.{all, keep}
 use Rattle.rules.specs.Matching.{Entry}
 use Rattle.rules.specs.State.{live, wrote, limitOf}
-use Rattle.rules.specs.Words.{zeros, entryAt, entriesAt, decode, rowOk, rowsOk, parties, sound}
+use Rattle.rules.specs.Words.{rowStart, zeros, entryAt, entriesAt, decode, rowOk, rowsOk, parties, sound}
 use Rattle.rules.proofs.BitLaws.{eqb-same}
 use Rattle.rules.proofs.ListLaws.{bool, clash}
 use Rattle.rules.proofs.Rows.{length-zeros}
@@ -21,13 +21,13 @@ use Rattle.audit.specs.Audited.{Counted}
 
 -- the words from row r on, which are row r and those from the next row on
 abbrev pub rowsFrom : List ℕ → ℕ → List ℕ
-rowsFrom ws r = drop (17 + 14 * r) ws
+rowsFrom ws r = drop (rowStart r) ws
 
 pub rows-after : (ws : List ℕ) (r : ℕ) → drop 14 (rowsFrom ws r) ≡ rowsFrom ws (r + 1)
-rows-after ws r = let e : 17 + 14 * r + 14 ≡ 17 + 14 * (r + 1) = omega arith in drop-drop 14 (17 + 14 * r) ws ∙ ap (λ (k : ℕ). drop k ws) e
+rows-after ws r = let e : rowStart r + 14 ≡ rowStart (r + 1) = omega arith in drop-drop 14 (rowStart r) ws ∙ ap (λ (k : ℕ). drop k ws) e
 
 abbrev pub writerAt : List ℕ → ℕ → ℕ
-writerAt ws r = getD ws (17 + 14 * r) 0
+writerAt ws r = getD ws (rowStart r) 0
 
 pub record Counting (ws counts : List ℕ) (r : ℕ) : Type 0 where
   pub bound : r ≤ getD ws 0 0
@@ -83,7 +83,7 @@ unsound ws h = go (bool (sound ws))
     go (inr e) = e
 
 first-word : (ws : List ℕ) (r : ℕ) → getD (rowsFrom ws r) 0 0 ≡ writerAt ws r
-first-word ws r = let e : 17 + 14 * r + 0 ≡ 17 + 14 * r = omega arith in getD-drop (17 + 14 * r) ws 0 0 ∙ ap (λ (k : ℕ). getD ws k 0) e
+first-word ws r = let e : rowStart r + 0 ≡ rowStart r = omega arith in getD-drop (rowStart r) ws 0 0 ∙ ap (λ (k : ℕ). getD ws k 0) e
 
 pub writer-le : (ws : List ℕ) (r : ℕ) → 14 ≤ length (rowsFrom ws r) → rowOk (rowsFrom ws r) ≡ true → writerAt ws r ≤ 7
 writer-le ws r l e = rw (← (first-word ws r)) (row-back (rowsFrom ws r) l e .0 .writerOk)
@@ -110,23 +110,21 @@ module _ (ws counts : List ℕ) (r : ℕ) (at : Counting ws counts r) (more : r 
       ∙ ap₂ (λ (w : ℕ) (l : List ℕ). cond (eqb w who) 1 0 + live who (entriesAt (getD ws 0 0 - (r + 1)) l)) (first-word ws r) (rows-after ws r)
 
   -- the writer has as many as it may have before this row
-  pub too-many : writerAt ws r ≤ 7 → 16 ≤ getD counts (writerAt ws r) 0 → sound ws ≡ false
-  too-many l h =
-      let w : ℕ = writerAt ws r in
+  pub too-many : {w : ℕ} → w ≡ writerAt ws r → w ≤ 7 → 16 ≤ getD counts w 0 → sound ws ≡ false
+  too-many {w} e l h =
       let next : live w (entriesAt (getD ws 0 0 - r) (rowsFrom ws r)) ≡ 1 + live w (entriesAt (getD ws 0 0 - (r + 1)) (rowsFrom ws (r + 1))) =
-      live-next w ∙ rw (eqb-same w) in
+      live-next w ∙ rw (← e, eqb-same w) in
       unsound ws (λ s. omega (arith, at .count w l, wf-decode ws s .limits w))
 
-  pub counting-more : writerAt ws r ≤ 7 → rowOk (rowsFrom ws r) ≡ true → getD counts (writerAt ws r) 0 < 16
-      → Counting ws (raised counts (writerAt ws r)) (r + 1)
-  counting-more l e h =
-      let w : ℕ = writerAt ws r in
+  pub counting-more : {w : ℕ} → w ≡ writerAt ws r → w ≤ 7 → rowOk (rowsFrom ws r) ≡ true → getD counts w 0 < 16
+      → Counting ws (raised counts w) (r + 1)
+  counting-more {w} q l e h =
       let fits : w < length counts = omega (arith, at .len) in
       record {
         bound = omega arith;
         len = length-set counts w (getD counts w 0 + 1) ∙ at .len;
         rows = (rw e at rows-next);
-        count = λ who k. rw (raised-at counts w who fits) (omega (arith, at .count who k, live-next who));
+        count = λ who k. rw (raised-at counts w who fits) (omega (arith, at .count who k, rw (← q) at (live-next who)));
         within = λ who k. rw (raised-at counts w who fits) (raised-le counts w who h (at .within who k));
       }
 

@@ -1,10 +1,10 @@
 // The soundness test of a space: one pass over its words, which also counts each writer's entries.
 // Counters are u32, since the board's core has 32 bits.
 ghost use mathlib.Core.Path.{_≡_};
-ghost use Prim.Native.Nat.{_+_, _*_, _≤_};
+ghost use Prim.Native.Nat.{_≤_};
 ghost use lib.ListN.{length, getD, drop};
 ghost use Rattle.rules.specs.Lists.{all};
-ghost use Rattle.rules.specs.Words.{zeros, decode, isZero, holdingsOk};
+ghost use Rattle.rules.specs.Words.{rowStart, zeros, decode, isZero, holdingsOk};
 ghost use Rattle.audit.specs.Audited.{audited, AfterRows};
 
 // Whether a space is sound and, if so, how many live entries the party has.
@@ -20,7 +20,7 @@ fn rows_ok(space: &[u64], n: u32, charges: &mut [u32]) -> bool
 {
     let mut r = 0;
     while r < n {
-        let at = (17 + 14 * r) as usize;
+        let at = starts::start(r) as usize;
         let end = at + 14;
         if !rows::row_ok(&space[at..end]) {
             return false;
@@ -59,11 +59,11 @@ fn holdings_ok(space: &[u64]) -> bool
 // S9: the rows past the live ones, each tested as a whole, so that a comparison serves many words.
 fn rest_ok(space: &[u64], n: u32) -> bool
     requires { ⌜ (length (now space) ≡ 1809) × (n ≤ 128) ⌝ }
-    ensures { λ r. ⌜ r ≡ all isZero (drop (17 + 14 * n) (now (space .entry))) ⌝ }
+    ensures { λ r. ⌜ r ≡ all isZero (drop (rowStart n) (now (space .entry))) ⌝ }
 {
     let mut r = n;
     while r < 128 {
-        let at = (17 + 14 * r) as usize;
+        let at = starts::start(r) as usize;
         let end = at + 14;
         if !rows::blank(&space[at..end]) {
             return false;
@@ -85,10 +85,10 @@ pub fn audit(space: &[u64], party: u32) -> Finding
         return Finding::Unsound;
     }
     let n = live as u32;
+    let mut charges = [0u32; 8];
     if !holdings_ok(space) {
         return Finding::Unsound;
     }
-    let mut charges = [0u32; 8];
     if !rows_ok(space, n, &mut charges) {
         return Finding::Unsound;
     }

@@ -33,14 +33,15 @@ pub fn clear(part: &mut [u64])
     }
 }
 
-// C4: the entry in that place is removed.
+// C4: the entry in that place is removed. What moves ends where the last live row ends, 14 words after its start: past the 128
+// rows no row starts.
 pub fn remove_row(space: &mut [u64], row: usize)
     requires { ⌜ (sound (now space) ≡ true) × (row < getD (now space) 0 0) ⌝ }
     ensures { λ _. ⌜ now (space .exit) ≡ encode (withEntries (take row (decode (now (space .entry)) .entries) ++ drop (suc row) (decode (now (space .entry)) .entries)) (decode (now (space .entry)))) ⌝ }
 {
-    let live = space[0] as usize;
-    let at = 17 + 14 * row;
-    let end = 17 + 14 * live;
+    let live = space[0] as u32;
+    let at = starts::start(row as u32) as usize;
+    let end = starts::start(live - 1) as usize + 14;
     close_up(&mut space[at..end]);
     space[0] = (live - 1) as u64;
 }
@@ -110,8 +111,8 @@ pub fn add_row(
     requires { ⌜ (sound (now space) ≡ true) × (getD (now space) 0 0 < 128) × (length (now fields) ≤ 8) ⌝ }
     ensures { λ _. ⌜ now (space .exit) ≡ encode (withEntries (decode (now (space .entry)) .entries ++ (entry writer rpart rkey tpart tkey (now (fields .entry)) ∷ [])) (decode (now (space .entry)))) ⌝ }
 {
-    let live = space[0] as usize;
-    let at = 17 + 14 * live;
+    let live = space[0] as u32;
+    let at = starts::start(live) as usize;
     let end = at + 14;
     write_row(
         &mut space[at..end],

@@ -23,16 +23,18 @@ mid-mid z a b i k m h e =
     let rest : List ℕ = drop k (drop i z) in
     rw (← append-assoc (take i z) a rest, take-at (take i z ++ a) rest (i + k) len, drop-at (take i z ++ a) rest (i + k) len)
 
--- the words from k on, cleared as the part of the space that is lent
-pub past-cleared : (s z : List ℕ) (k n : ℕ) → length s ≡ k + n → z ≡ zeros (length (take (length s - k) (drop k s)))
-    → drop k (take k s ++ (z ++ drop (length s - k) (drop k s))) ≡ zeros n
-past-cleared s z k n len e =
+-- the n words from k on, which are the last, cleared as the part of the space that is lent
+pub past-cleared : (s z : List ℕ) (k n : ℕ) {at end : ℕ} → at ≡ k → end ≡ k + n → length s ≡ k + n → z ≡ zeros (length (take (end - at) (drop at s)))
+    → drop k (take at s ++ (z ++ drop (end - at) (drop at s))) ≡ zeros n
+past-cleared s z k n from to len e =
     let front : length (take k s) ≡ k = simp length-take (omega arith) in
-    let size : length (take (length s - k) (drop k s)) ≡ n = simp (length-take, length-drop) (omega arith) in
-    let none : length (drop k s) ≤ length s - k = simp length-drop (omega arith) in
-    drop-at (take k s) (z ++ drop (length s - k) (drop k s)) k front
+    let size : length (take (k + n - k) (drop k s)) ≡ n = simp (length-take, length-drop) (omega arith) in
+    let none : length (drop k s) ≤ k + n - k = simp length-drop (omega arith) in
+    let cleared : z ≡ zeros (length (take (k + n - k) (drop k s))) = rw (from, to) at e in
+    rw (from, to)
+    (drop-at (take k s) (z ++ drop (k + n - k) (drop k s)) k front
     ∙ rw (drop-of-length-le (drop k s) none, append-nil z)
-    (e ∙ ap zeros size)
+    (cleared ∙ ap zeros size))
 
 -- the two parts and the count, on a space whose rows are cleared
 pub on-cleared : (z a b : List ℕ) → 1 ≤ length z → drop 17 z ≡ zeros 1792

@@ -66,7 +66,9 @@ pub fn fill(space: &mut [u64], roster: &[u64])
     requires { ⌜ (length (now space) ≡ 1809) × (length (now roster) ≡ 16) ⌝ }
     ensures { λ _. ⌜ now (space .exit) ≡ encode (opened (now (roster .entry))) ⌝ }
 {
-    edits::clear(&mut space[17..]);
+    let rows = starts::start(0) as usize;
+    let end = starts::END as usize;
+    edits::clear(&mut space[rows..end]);
     with_all(&roster[0..8], &mut space[1..9], 0);
     with_all(&roster[8..16], &mut space[9..17], 31);
     space[0] = 0;

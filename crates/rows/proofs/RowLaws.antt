@@ -1,7 +1,7 @@
 -- A row as the code tests it: its head, then all eight field words as fields, then those past the fields for 0.
 use mathlib.Core.Path.{_≡_, refl, sym, ap, _∙_}
 use mathlib.Core.Logic.{_⊎_, inl, inr}
-use mathlib.Core.Bool.{Bool, true, false, _&&_, and-true, and-false, false≢true}
+use mathlib.Core.Bool.{Bool, true, false, _&&_, and-true, and-false, and-comm, and-assoc, false≢true}
 use mathlib.Core.List.{List, [], _∷_}
 use Prim.Native.Nat.{ℕ, _+_, _-_, _≤_}
 use native.Mathlib.Nat.{add-sub-cancel-left}
@@ -15,6 +15,27 @@ use Rattle.rules.specs.Fields.{field, putField}
 use Rattle.rules.specs.Words.{isZero, headOk, rowOk}
 use Rattle.rules.proofs.ListLaws.{bool, and-left, and-right}
 use Rattle.rules.proofs.Loops.{all-append}
+
+-- S6: the tests of the head with the count's first, as the code has them
+to-end : (a b c d e y : Bool) → ((a && (b && (c && (d && e)))) && y) ≡ (a && (b && (c && (d && (e && y)))))
+to-end false b c d e y = refl
+to-end true false c d e y = refl
+to-end true true false d e y = refl
+to-end true true true false e y = refl
+to-end true true true true e y = refl
+
+pub count-first : (r : List ℕ)
+    → (leb 1 (getD r 5 0)
+    && (leb (getD r 5 0) 8
+    && (leb (getD r 0 0) 7 && (leb (getD r 1 0) 63 && (leb (getD r 2 0) 62 && (leb (getD r 3 0) 63 && leb (getD r 4 0) 62))))))
+    ≡ headOk r
+count-first r =
+    let some : Bool = leb 1 (getD r 5 0) in
+    let few : Bool = leb (getD r 5 0) 8 in
+    let others : Bool = leb (getD r 0 0) 7 && (leb (getD r 1 0) 63 && (leb (getD r 2 0) 62 && (leb (getD r 3 0) 63 && leb (getD r 4 0) 62))) in
+    sym (and-assoc some few others)
+    ∙ and-comm (some && few) others
+    ∙ to-end (leb (getD r 0 0) 7) (leb (getD r 1 0) 63) (leb (getD r 2 0) 62) (leb (getD r 3 0) 63) (leb (getD r 4 0) 62) (some && few)
 
 -- S6: the head bounds the number of fields
 pub few-fields : (r : List ℕ) → headOk r ≡ true → getD r 5 0 ≤ 8

@@ -2,7 +2,7 @@
 use mathlib.Core.Bool.{Bool, not, _&&_, _||_, cond}
 use mathlib.Core.List.{List, [], _∷_, _++_}
 use mathlib.Core.Option.{Option, none, some}
-use Prim.Native.Nat.{ℕ, zero, suc, _-_, _*_}
+use Prim.Native.Nat.{ℕ, zero, suc, _+_, _-_, _*_}
 use lib.Dec.{leb, eqb}
 use lib.ListN.{length, getD, take, drop, replicate}
 use Rattle.rules.specs.Lists.{all}
@@ -15,6 +15,14 @@ use Rattle.rules.specs.Calls.{Call, put, seek, Answer, done, refused, Ta
 -- n words of 0
 unfoldable pub zeros : ℕ → List ℕ
 zeros n = replicate n 0
+
+-- L4: the word at which row r starts
+abbrev pub rowStart : ℕ → ℕ
+rowStart r = 17 + 14 * r
+
+-- L4: where the rows end; the space has no words after them yet
+abbrev pub rowsEnd : ℕ
+rowsEnd = rowStart 128
 
 -- L4, F6: the 14 words of an entry's row; unused field words are 0
 abbrev pub rowOf : Entry → List ℕ

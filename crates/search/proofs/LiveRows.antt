@@ -1,19 +1,20 @@
 -- A live row of a sound space: the entry that it holds, and when the entry matches, by the row's words.
 use mathlib.Core.Path.{_≡_, refl, sym, ap, _∙_}
 use mathlib.Core.Logic.{_⊎_, inl, inr}
-use mathlib.Core.Bool.{Bool, true, false, _&&_, and-comm}
+use mathlib.Core.Bool.{Bool, true, false, _&&_, and-comm, and-assoc}
 use mathlib.Core.List.{List, _∷_}
 use Prim.Native.Nat.{ℕ, zero, suc, _+_, _-_, _*_, _≤_, _<_}
+use native.Mathlib.Nat.{add-sub-cancel-left}
 use native.Mathlib.Omega.{arith}
 use native.Mathlib.Numerals.{add-one}
 use borrow.Author.Tests.{eq-eqb, ne-eqb, eqb-true, eqb-false}
 use lib.Dec.{eqb}
-use lib.ListN.{length, getD, drop, length-drop, drop-of-length-le}
+use lib.ListN.{length, getD, take, drop, length-take, length-drop, drop-of-length-le}
 use lib.Seq.{getD-take, getD-drop, drop-drop, drop-cons}
 use Rattle.rules.specs.Names.{coStored}
 use Rattle.rules.specs.Fields.{fieldAgrees}
 use Rattle.rules.specs.Matching.{pair, Entry, pairFor, fieldsAgree, matches}
-use Rattle.rules.specs.Words.{entryAt, entriesAt, decode, rowOk, rowsOk, sound}
+use Rattle.rules.specs.Words.{rowStart, entryAt, entriesAt, decode, rowOk, rowsOk, sound}
 use Rattle.rules.proofs.ListLaws.{bool, and-left, and-right}
 use Rattle.rules.proofs.Rows.{PairOk, EntryOk}
 use Rattle.rules.proofs.Back.{SoundFacts, sound-facts, row-back}
@@ -25,6 +26,16 @@ use Rattle.search.specs.declared.Op.the-variants.{Looking, Receiving, Ta
 -- L4: the entry of the row that begins at that word
 abbrev pub entryOn : List ℕ → ℕ → Entry
 entryOn ws at = entryAt (drop at ws)
+
+-- L4: the words of that row before its fields, as they are lent
+abbrev pub headOn : List ℕ → ℕ → List ℕ
+headOn ws at = take (at + 6 - at) (drop at ws)
+
+head-word : (ws : List ℕ) (at k : ℕ) → k < 6 → getD (headOn ws at) k 0 ≡ getD ws (at + k) 0
+head-word ws at k l = rw add-sub-cancel-left (getD-take 6 (drop at ws) k 0 l ∙ getD-drop at ws k 0)
+
+pub head-len : (ws : List ℕ) (at : ℕ) → at + 6 ≤ length ws → length (headOn ws at) ≡ 6
+head-len ws at l = rw add-sub-cancel-left (simp (length-take, length-drop) (omega arith))
 
 -- row r is live and begins at that word
 pub record LiveRow (ws : List ℕ) (r at : ℕ) : Type 0 where
@@ -42,7 +53,7 @@ rows-at (suc n) rows (suc r) l h =
     let e : drop (14 * r) (drop 14 rows) ≡ drop (14 * suc r) rows = drop-drop (14 * r) 14 rows ∙ ap (λ (n : ℕ). drop n rows) a in
     (rw e at (k .0), rw e at (k .1))
 
-pub live-row : (ws : List ℕ) (r : ℕ) {at : ℕ} → at ≡ 17 + 14 * r → sound ws ≡ true → r < getD ws 0 0 → LiveRow ws r at
+pub live-row : (ws : List ℕ) (r : ℕ) {at : ℕ} → at ≡ rowStart r → sound ws ≡ true → r < getD ws 0 0 → LiveRow ws r at
 unfolding decode
 live-row ws r {at} here s l =
     let f : SoundFacts ws = sound-facts ws s in
@@ -92,30 +103,39 @@ module _ {ws : List ℕ} {r at : ℕ} (row : LiveRow ws r at) where
   pair-on Taking = (getD-drop at ws 3 0, getD-drop at ws 4 0, row .ok .takeOk)
 
   -- S6: the words that the search tests first are in range
-  pub small-on : (op : Op) (o : ℕ) → o ≡ offset op → SmallAt ws at o
+  pub small-on : (op : Op) (o : ℕ) → o ≡ offset op → SmallAt (headOn ws at) o
   small-on op o e =
       let q = pair-on op in
-      rw e
-      (record {
-        count = omega (arith, row .ok .few, row .count);
-        partition = omega (arith, q .2 .partitionOk, q .0);
-        key = omega (arith, q .2 .keyOk, q .1);
-      })
+      let l = offset-le op o e in
+      record {
+        count = rw (head-word ws at 5 (omega arith)) (omega (arith, row .ok .few, row .count));
+        partition = rw (head-word ws at o (omega arith), e) (omega (arith, q .2 .partitionOk, q .0));
+        key = rw (head-word ws at (o + 1) (omega arith), e) (omega (arith, q .2 .keyOk, q .1));
+      }
+
+  -- M1, M3, M4: the test of these words, on the words of the space
+  pair-words : (o p k n : ℕ) → o ≤ 3
+      → pairAt (headOn ws at) o p k n ≡ (eqb (getD ws (at + 5) 0) n && (eqb (getD ws (at + o) 0) p && eqb (getD ws (at + (o + 1)) 0) k))
+  unfolding pairAt
+  pair-words o p k n l =
+      rw (head-word ws at 5 (omega arith), head-word ws at o (omega arith), head-word ws at (o + 1) (omega arith))
+      (and-assoc (eqb (getD ws (at + 5) 0) n) (eqb (getD ws (at + o) 0) p) (eqb (getD ws (at + (o + 1)) 0) k))
 
   -- M1: a row that passes the first test has as many fields
-  pub count-on : (o p k n : ℕ) (x : Bool) → x ≡ pairAt ws at o p k n → x ≡ true → length (entryOn ws at .fields) ≡ n
-  unfolding pairAt
-  count-on o p k n x e h = row .count ∙ eqb-true (getD ws (at + 5) 0) n (and-left (eqb (getD ws (at + 5) 0) n) _ (sym e ∙ h))
+  pub count-on : (o p k n : ℕ) (x : Bool) → o ≤ 3 → x ≡ pairAt (headOn ws at) o p k n → x ≡ true → length (entryOn ws at .fields) ≡ n
+  count-on o p k n x l e h =
+      row .count ∙ eqb-true (getD ws (at + 5) 0) n (and-left (eqb (getD ws (at + 5) 0) n) _ (sym (e ∙ pair-words o p k n l) ∙ h))
 
   -- M1 to M4, as the search goes about them: the pair, then the fields
-  pub match-on : (op : Op) (o p k : ℕ) (t : List ℕ) (x b d : Bool) → o ≡ offset op → k ≤ 62 → x ≡ pairAt ws at o p k (length t) → x ≡ b
+  pub match-on : (op : Op) (o p k : ℕ) (t : List ℕ) (x b d : Bool) → o ≡ offset op → k ≤ 62 → x ≡ pairAt (headOn ws at) o p k (length t) → x ≡ b
       → fieldsAgree t (entryOn ws at .fields) ≡ d → matches (meant op) (pair p (coStored k)) t (entryOn ws at) ≡ (b && d)
-  unfolding matches pairAt
+  unfolding matches
   match-on op o p k t x b d e l h y g =
       let q = pair-on op in
       let key : ℕ = pairFor (meant op) (entryOn ws at) .key in
+      let first = h ∙ pair-words o p k (length t) (offset-le op o e) in
       fields-last (eqb (length t) (length (entryOn ws at .fields))) (fieldsAgree t (entryOn ws at .fields)) _
-      ∙ rw (co-eqb key k (q .2 .keyOk) l, q .0, q .1, ← e, eqb-comm (length t) (length (entryOn ws at .fields)), row .count, ← h, y, g)
+      ∙ rw (co-eqb key k (q .2 .keyOk) l, q .0, q .1, ← e, eqb-comm (length t) (length (entryOn ws at .fields)), row .count, ← first, y, g)
 
   -- L4: field i and its word
   field-on : (i : ℕ) → i < length (entryOn ws at .fields) → getD (entryOn ws at .fields) i 0 ≡ getD ws (at + (6 + i)) 0

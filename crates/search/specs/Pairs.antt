@@ -13,13 +13,12 @@ offset Looking = 1
 offset Receiving = 1
 offset Taking = 3
 
--- S6: the count, the partition and the key at that offset are in range
-pub record SmallAt (ws : List ℕ) (at pair : ℕ) : Type 0 where
-  pub count : getD ws (at + 5) 0 ≤ 8
-  pub partition : getD ws (at + pair) 0 ≤ 63
-  pub key : getD ws (at + (pair + 1)) 0 ≤ 62
+-- S6: of the words before a row's fields, the count, the partition and the key at that offset are in range
+pub record SmallAt (head : List ℕ) (pair : ℕ) : Type 0 where
+  pub count : getD head 5 0 ≤ 8
+  pub partition : getD head pair 0 ≤ 63
+  pub key : getD head (pair + 1) 0 ≤ 62
 
--- M1, M3, M4: the row at that word has the count, and the partition and the key at that offset
-unfoldable pub pairAt : List ℕ → ℕ → ℕ → ℕ → ℕ → ℕ → Bool
-pairAt ws at pair partition key count =
-    eqb (getD ws (at + 5) 0) count && (eqb (getD ws (at + pair) 0) partition && eqb (getD ws (at + (pair + 1)) 0) key)
+-- M1, M3, M4: those words have the count, and the partition and the key at that offset
+unfoldable pub pairAt : List ℕ → ℕ → ℕ → ℕ → ℕ → Bool
+pairAt head pair partition key count = (eqb (getD head 5 0) count && eqb (getD head pair 0) partition) && eqb (getD head (pair + 1) 0) key

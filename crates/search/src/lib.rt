@@ -2,8 +2,8 @@
 // since the board's core has 32 bits.
 ghost use mathlib.Core.Path.{_≡_};
 ghost use mathlib.Core.Bool.{true, not};
-ghost use Prim.Native.Nat.{_+_, _≤_};
-ghost use lib.ListN.{length};
+ghost use Prim.Native.Nat.{_≤_};
+ghost use lib.ListN.{length, getD};
 ghost use Rattle.rules.specs.Names.{coStored};
 ghost use Rattle.rules.specs.Lists.{all};
 ghost use Rattle.rules.specs.Fields.{fieldAgrees};
@@ -26,8 +26,8 @@ pub enum Found {
     Nothing,
 }
 
-// M5: left at the first row whose fields all agree, and each row at the first field that does not. The row's first word
-// goes along with the row, which spares a product for each. Whoever tested the template knows whether it has bounds.
+// M5: left at the first row whose fields all agree, and each row at the first field that does not. Whoever tested the template
+// knows whether it has bounds.
 pub fn search(
     space: &[u64],
     op: Op,
@@ -40,33 +40,44 @@ pub fn search(
     ensures { λ r. ⌜ r ≡ place (matches (meant op) (pair partition (coStored cokey)) (now (template .entry))) (decode (now (space .entry)) .entries) ⌝ }
 {
     let pair = pair_of(op);
-    let live = space[0] as u32;
+    let live = live_rows(space);
     let count = template.len() as u32;
     let mut row = 0;
-    let mut word = 17u32;
     'rows: while row < live {
-        let at = word as usize;
-        if pair_agrees(space, at, pair, partition, cokey, count) {
+        let at = starts::start(row) as usize;
+        let end = at + 6;
+        if pair_agrees(&space[at..end], pair, partition, cokey, count) {
             let mut i = 0;
-            'fields: while i < count {
+            'fields: loop {
+                if i == count {
+                    break 'rows;
+                }
                 let k = i as usize;
                 if !agrees(template[k], space[at + (6 + k)], bounded) {
                     break 'fields;
                 }
                 i += 1;
             }
-            if i == count {
-                break 'rows;
-            }
         }
         row += 1;
-        word += 14;
     }
     if row < live {
         Found::At(row as usize)
     } else {
         Found::Nothing
     }
+}
+
+// S2: how many rows are live. More than 128 there never are; the test tells the compiler, which then needs none at each row.
+fn live_rows(space: &[u64]) -> u32
+    requires { ⌜ sound (now space) ≡ true ⌝ }
+    ensures { λ r. ⌜ r ≡ getD (now (space .entry)) 0 0 ⌝ }
+{
+    let live = space[0];
+    if 128 < live {
+        return 128;
+    }
+    live as u32
 }
 
 // M2, by the quicker test where no word is a bound.
@@ -92,20 +103,13 @@ fn pair_of(op: Op) -> usize
     }
 }
 
-// M1, M3, M4: the row at that word has the count, and the pair.
-fn pair_agrees(
-    space: &[u64],
-    at: usize,
-    pair: usize,
-    partition: u32,
-    cokey: u32,
-    count: u32,
-) -> bool
-    requires { ⌜ (at + 14 ≤ length (now space)) × (pair ≤ 3) × SmallAt (now space) at pair ⌝ }
-    ensures { λ r. ⌜ r ≡ pairAt (now (space .entry)) at pair partition cokey count ⌝ }
+// M1, M3, M4: the row has the count, and the pair. Six words of it are lent, those before the fields.
+fn pair_agrees(head: &[u64], pair: usize, partition: u32, cokey: u32, count: u32) -> bool
+    requires { ⌜ (length (now head) ≡ 6) × (pair ≤ 3) × SmallAt (now head) pair ⌝ }
+    ensures { λ r. ⌜ r ≡ pairAt (now (head .entry)) pair partition cokey count ⌝ }
 {
-    let fields = space[at + 5] as u32 == count;
-    let partitions = space[at + pair] as u32 == partition;
-    let keys = space[at + (pair + 1)] as u32 == cokey;
-    fields & (partitions & keys)
+    let fields = head[5] as u32 == count;
+    let partitions = head[pair] as u32 == partition;
+    let keys = head[pair + 1] as u32 == cokey;
+    fields & partitions & keys
 }

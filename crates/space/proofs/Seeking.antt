@@ -20,7 +20,7 @@ use Rattle.rules.specs.Fields.{namesIn}
 use Rattle.rules.specs.Matching.{Pair, pair, storedPair, Entry, Op, looking, receiving, taking, matches}
 use Rattle.rules.specs.State.{State, give, giveAll, withEntries}
 use Rattle.rules.specs.Calls.{seek, Answer, found, nothing, Table, firstThatApplies, seekTable, remaining, gained}
-use Rattle.rules.specs.Words.{encode, entryAt, decode, sound, Exit, exit, call, refusals}
+use Rattle.rules.specs.Words.{rowStart, encode, entryAt, decode, sound, Exit, exit, call, refusals}
 use Rattle.rules.specs.Claims.{Passes}
 use Rattle.rules.proofs.ListLaws.{and-left}
 use Rattle.rules.proofs.Rows.{WF, sound-encode}
@@ -64,11 +64,12 @@ pub sought-key : (s : Sought) (ws : List ℕ) (op : Op) (who c : ℕ) (k k′ : 
     → s ≡ soughtIn ws op who (pair c k) t room → s ≡ soughtIn ws op who (pair c k′) t room
 sought-key s ws op who c k k′ t room q e = e ∙ ap (λ (j : ℤ). soughtIn ws op who (pair c j) t room) q
 
--- the fields that were copied to the result
-pub copied : (ws result last : List ℕ) (at k : ℕ) → at + k ≤ length ws
-    → last ≡ take (at + k - at) (drop at ws) ++ drop (length (take (at + k - at) (drop at ws))) result → last ≡ take k (drop at ws) ++ drop k result
-copied ws result last at k l h =
-    let n : length (take k (drop at ws)) ≡ k = simp (length-take, length-drop) (omega arith) in h ∙ rw (add-sub-cancel-left, n)
+-- the fields that were copied to the result, from the row's start + 6 on
+pub copied : (ws result last : List ℕ) (r k : ℕ) {at : ℕ} → at ≡ rowStart r + 6 → at + k ≤ length ws
+    → last ≡ take (at + k - at) (drop at ws) ++ drop (length (take (at + k - at) (drop at ws))) result → last ≡ fieldsAt r k ws ++ drop k result
+copied ws result last r k {at} here l h =
+    let n : length (take k (drop at ws)) ≡ k = simp (length-take, length-drop) (omega arith) in
+    h ∙ rw (add-sub-cancel-left, n) (ap (λ (j : ℕ). take k (drop j ws) ++ drop k result) here)
 
 -- no entry was found: the tags are those of the cases besides At
 abbrev pub Unfound : Sought → Type 0
@@ -159,9 +160,7 @@ module _ (ws : List ℕ) (op : Op) (who : ℕ) (p : Pair ℤ) (t result : List �
         let row : List ℕ = drop (14 * r) (drop 17 ws) in
         let k : ℕ = getD row 5 0 in
         let e : h .place .entry .fields ≡ take k (drop 6 row) = ap (λ (x : Entry). x .fields) entry-is in
-        let to : 17 + 14 * r + 6 ≡ 23 + 14 * r = omega arith in
-        let at : drop 6 row ≡ drop (23 + 14 * r) ws =
-        ap (drop 6) (drop-drop (14 * r) 17 ws) ∙ drop-drop 6 (17 + 14 * r) ws ∙ ap (λ (j : ℕ). drop j ws) to in
+        let at : drop 6 row ≡ drop (rowStart r + 6) ws = ap (drop 6) (drop-drop (14 * r) 17 ws) ∙ drop-drop 6 (rowStart r) ws in
         let n : length t ≡ length (take k (drop 6 row)) = sym count-is ∙ ap length e in
         rw (← at, n) (take-own k (drop 6 row) ∙ sym e)
 

@@ -2,7 +2,7 @@
 use mathlib.Core.Bool.{not}
 use mathlib.Core.List.{List, _∷_, _++_}
 use mathlib.Core.Option.{Option, none, some}
-use Prim.Native.Nat.{ℕ, _+_, _*_, _≤_}
+use Prim.Native.Nat.{ℕ, _+_, _≤_}
 use lib.IntN.{ℤ}
 use lib.ListN.{take, drop}
 use Rattle.rules.specs.Fields.{namesIn}
@@ -10,7 +10,7 @@ use Rattle.rules.specs.Matching.{Pair, storedPair, Op, matches}
 use Rattle.rules.specs.State.{giveAll}
 use Rattle.rules.specs.Calls.{done, found, nothing, refused, firstThatApplies, seekTable}
 use Rattle.rules.specs.Calls as calls
-use Rattle.rules.specs.Words.{encode, decode, sound}
+use Rattle.rules.specs.Words.{rowStart, encode, decode, sound}
 use Rattle.search.specs.Place.{place}
 use Rattle.search.specs.declared.Found as search
 use Rattle.search.specs.declared.Found.the-variants as search-found
@@ -56,7 +56,7 @@ soughtIn ws op who p t room =
 
 -- L4: the first n field words of row r
 abbrev pub fieldsAt : ℕ → ℕ → List ℕ → List ℕ
-fieldsAt r n ws = take n (drop (23 + 14 * r) ws)
+fieldsAt r n ws = take n (drop (rowStart r + 6) ws)
 
 -- C3, C8: the result once an entry was sought: the fields of the one found come first, or no word changes
 abbrev pub written : Sought → ℕ → List ℕ → List ℕ → List ℕ

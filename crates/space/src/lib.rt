@@ -190,7 +190,7 @@ fn copy_out(space: &[u64], row: usize, n: usize, result: &mut [u64])
     requires { ⌜ (length (now space) ≡ 1809) × (row < 128) × (n ≤ 8) × (n ≤ length (now result)) ⌝ }
     ensures { λ _. ⌜ now (result .exit) ≡ fieldsAt row n (now (space .entry)) ++ drop n (now (result .entry)) ⌝ }
 {
-    let at = 23 + 14 * row;
+    let at = starts::start(row as u32) as usize + 6;
     let end = at + n;
     edits::copy_in(&space[at..end], result);
 }

@@ -1,12 +1,12 @@
 -- `rows_ok` meets its contract: at each row, what is counted so far and what is left make the whole.
-use Prim.Native.Nat.{_+_, _-_, _*_, _≤_}
+use Prim.Native.Nat.{ℕ, _-_, _≤_}
 use mathlib.Core.Path.{_≡_, sym, ap, _∙_}
 use mathlib.Core.Bool.{true}
 use native.Mathlib.Omega.{arith}
 use borrow.Author.Needs.{needs}
 use borrow.Author.Tests.{not-true, not-false}
-use lib.ListN.{length}
-use Rattle.rules.specs.Words.{rowOk}
+use lib.ListN.{length, getD, drop}
+use Rattle.rules.specs.Words.{rowStart, rowOk}
 use Rattle.rules.proofs.Rows.{length-zeros}
 use Rattle.rows.proofs.RowLaws.{length-rest, length-row, row-lent}
 use Rattle.audit.proofs.Counting.{Counting, rowsFrom, writerAt, counting-none, counting-more, counting-done, row-bad, too-many, writer-le}
@@ -19,12 +19,19 @@ Inv-loop space n charges₀ r₀ charges r = Counting space charges r
 abbrev μ-loop : tie.MeasureT-loop
 μ-loop space n charges₀ r₀ charges r = n - r
 
--- the places of the walk, each by its way to the one before it: a turn of the loop, a row's test, and its writer's charge
+-- the places of the walk, each by its way to the one before it: a turn of the loop, a row's start, its test, and its writer's
+-- charge
 abbrev turn-start : tie.At-loop Inv-loop μ-loop → tie.Start Inv-loop μ-loop
 turn-start c = c .before .before .before
 
+abbrev row-turn : tie.After-start Inv-loop μ-loop → tie.At-loop Inv-loop μ-loop
+row-turn c = c .before .before
+
+abbrev test-row : tie.After-row-ok Inv-loop μ-loop → tie.After-start Inv-loop μ-loop
+test-row c = c .before .before
+
 abbrev test-turn : tie.After-row-ok Inv-loop μ-loop → tie.At-loop Inv-loop μ-loop
-test-turn c = c .before .before .before
+test-turn c = row-turn (test-row c)
 
 abbrev charge-test : tie.After-slice-known2 Inv-loop μ-loop → tie.Else1 Inv-loop μ-loop
 charge-test c = c .before .before
@@ -39,27 +46,32 @@ eight c = c .loop .inv .len ∙ sym (ap length (turn-start c .pre .3) ∙ length
 -- the row is as its test says
 row-is : (c : tie.After-row-ok Inv-loop μ-loop) → rowOk (rowsFrom (turn-start (test-turn c) .args .space .now) (test-turn c .loop .r)) ≡ c .row-ok .result
 row-is c =
-    let turn = test-turn c in sym (row-lent (turn-start turn .args .space .now) (17 + 14 * turn .loop .r) (search needs)) ∙ sym (c .row-ok .ensures)
+    let row = test-row c in
+    let space = turn-start (row-turn row) .args .space .now in
+    ap (λ (at : ℕ). rowOk (drop at space)) (sym (row .start .ensures))
+    ∙ sym (row-lent space (row .start .result) (search needs))
+    ∙ sym (c .row-ok .ensures)
 
 -- past the test of a row it is good, so its writer is a party
 module _ (c : tie.Else1 Inv-loop μ-loop) where
   good : rowOk (rowsFrom (turn-start (test-turn (c .before)) .args .space .now) (test-turn (c .before) .loop .r)) ≡ true
   good = row-is (c .before) ∙ not-false _ (c .if1 .left)
 
-  party : writerAt (turn-start (test-turn (c .before)) .args .space .now) (test-turn (c .before) .loop .r) ≤ 7
+  writer-is : getD (turn-start (test-turn (c .before)) .args .space .now) (test-row (c .before) .start .result) 0
+      ≡ writerAt (turn-start (test-turn (c .before)) .args .space .now) (test-turn (c .before) .loop .r)
+  writer-is = ap (λ (at : ℕ). getD (turn-start (test-turn (c .before)) .args .space .now) at 0) (test-row (c .before) .start .ensures)
+
+  party : getD (turn-start (test-turn (c .before)) .args .space .now) (test-row (c .before) .start .result) 0 ≤ 7
   party =
       let turn = test-turn (c .before) in
       let space = turn-start turn .args .space .now in
-      writer-le space (turn .loop .r) (length-rest space (17 + 14 * turn .loop .r) (search needs)) good
+      rw writer-is (writer-le space (turn .loop .r) (length-rest space (rowStart (turn .loop .r)) (search needs)) good)
 
 loop-holds : tie.Need-loop-holds Inv-loop μ-loop
 loop-holds c = let start = c .before .before in counting-none (start .args .space .now) (start .args .charges .now) (start .pre .3)
 
-mul-at : tie.Need-mul-at Inv-loop μ-loop
-mul-at c = search needs
-
-add-at : tie.Need-add-at Inv-loop μ-loop
-add-at c = search needs
+start-requires : tie.Need-start-requires Inv-loop μ-loop
+start-requires c κs = search needs
 
 cast-at : tie.Need-cast-at Inv-loop μ-loop
 cast-at c = search needs
@@ -80,7 +92,7 @@ part-row-ok-end : tie.Need-part-row-ok-end Inv-loop μ-loop
 part-row-ok-end c = search needs
 
 row-ok-requires : tie.Need-row-ok-requires Inv-loop μ-loop
-row-ok-requires c κs = let turn = c .before .before in length-row (turn-start turn .args .space .now) (17 + 14 * turn .loop .r) (search needs)
+row-ok-requires c κs = let row = c .before in length-row (turn-start (row-turn row) .args .space .now) (row .start .result) (search needs)
 
 same-length : tie.Need-same-length Inv-loop μ-loop
 same-length c = eight (test-turn (c .before))
@@ -109,8 +121,9 @@ same-length-2 c = eight (charge-turn (c .before))
 returns-2 : tie.Need-returns-2 Inv-loop μ-loop
 returns-2 c =
     let turn = charge-turn (c .before) in
+    let test = charge-test (c .before) in
     too-many (turn-start turn .args .space .now) (turn .loop .charges) (turn .loop .r) (turn .loop .inv) (omega arith)
-    (party (charge-test (c .before))) (c .if2 .taken)
+    (writer-is test) (party test) (c .if2 .taken)
 
 add-charges : tie.Need-add-charges Inv-loop μ-loop
 add-charges c = omega arith
@@ -132,7 +145,7 @@ loop-again c =
     let turn = charge-turn (c .before) in
     let test = charge-test (c .before) in
     counting-more (turn-start turn .args .space .now) (turn .loop .charges) (turn .loop .r) (turn .loop .inv) (omega arith)
-    (party test) (good test) (c .if2 .left)
+    (writer-is test) (party test) (good test) (c .if2 .left)
 
 same-length-3 : tie.Need-same-length-3 Inv-loop μ-loop
 same-length-3 c = eight (c .before)
@@ -147,8 +160,7 @@ rows-ok-spec =
     Inv-loop
     μ-loop
     loop-holds
-    mul-at
-    add-at
+    start-requires
     cast-at
     add-end
     mul-row-ok

@@ -1,21 +1,25 @@
 -- `fill` meets its contract: the rows are cleared, the two parts before them are the holdings, and the count of entries is 0.
 use Prim.Native.Nat.{ℕ, _-_, _≤_}
-use mathlib.Core.Path.{_≡_, ap, _∙_}
+use mathlib.Core.Path.{_≡_, refl, ap, _∙_}
 use mathlib.Core.List.{List, _++_, map}
 use native.Mathlib.Omega.{arith}
 use lib.ListN.{length, take, drop, set, length-append, length-map, length-take, length-drop, length-set}
 use lib.Seq.{take-all}
 use Rattle.rules.specs.Names.{withBit, defaultPartition, defaultKey}
 use Rattle.rules.specs.Calls.{opened}
-use Rattle.rules.specs.Words.{zeros, encode}
+use Rattle.rules.specs.Words.{rowsEnd, zeros, encode}
 use Rattle.holdings.proofs.Opening.{mid-mid, past-cleared, on-cleared}
 use borrow.Author.Needs.{needs}
 use Rattle.holdings.proofs.fill.Statement.{statement}
 use Rattle.holdings.proofs.fill.Tie as tie
 
--- the places of the walk, each by its way to the one before it: the rows cleared, the partitions written, the keys written
-abbrev clear-start : tie.After-clear → tie.Start
-clear-start c = c .before .before .before .before
+-- the places of the walk, each by its way to the one before it: the rows' start found, the rows cleared, the partitions written,
+-- the keys written
+abbrev rows-start : tie.After-start → tie.Start
+rows-start c = c .before .before .before
+
+abbrev clear-rows : tie.After-clear → tie.After-start
+clear-rows c = c .before .before
 
 abbrev partitions-clear : tie.After-with-all → tie.After-clear
 partitions-clear c = c .before .before .before .before .before
@@ -25,6 +29,18 @@ keys-partitions c = c .before .before .before .before .before
 
 abbrev end-keys : tie.After-slice-known4 → tie.After-with-all2
 end-keys c = c .before .before
+
+start-requires : tie.Need-start-requires
+start-requires c κs = search needs
+
+cast-rows : tie.Need-cast-rows
+cast-rows c = search needs
+
+cast-end : tie.Need-cast-end
+cast-end c = search needs
+
+mul-clear : tie.Need-mul-clear
+mul-clear c = search needs
 
 sub-clear : tie.Need-sub-clear
 sub-clear c = search needs
@@ -92,24 +108,30 @@ returns c =
     let written = end-keys c in
     let partitioned = keys-partitions written in
     let clear = partitions-clear partitioned in
-    let start = clear-start clear in
+    let found = clear-rows clear in
+    let start = rows-start found in
+    let rows = found .start .result in
     let s = start .args .space .now in
     let roster = start .args .roster .now in
-    let z : List ℕ = take 17 s ++ (clear .clear .last .0 ++ drop (length s - 17) (drop 17 s)) in
+    let z : List ℕ = take rows s ++ (clear .clear .last .0 ++ drop (rowsEnd - rows) (drop rows s)) in
     let partitions : List ℕ = map (λ w. withBit w defaultPartition) (take 8 roster) in
     let keys : List ℕ = map (λ w. withBit w defaultKey) (drop 8 roster) in
-    let past : drop 17 z ≡ zeros 1792 = past-cleared s (clear .clear .last .0) 17 1792 (start .pre .0) (clear .clear .ensures) in
+    let past : drop 17 z ≡ zeros 1792 = past-cleared s (clear .clear .last .0) 17 1792 (found .start .ensures) refl (start .pre .0) (clear .clear .ensures) in
     let first : partitioned .with-all .last .1 .0 ≡ partitions = partitioned .with-all .ensures in
     let whole : take 8 (drop 8 roster) ≡ drop 8 roster = take-all 8 (drop 8 roster) (simp length-drop (omega arith)) in
     let second : written .with-all2 .last .1 .0 ≡ keys = written .with-all2 .ensures ∙ ap (map (λ w. withBit w defaultKey)) whole in
     let eight : length partitions ≡ 8 = length-map (take 8 roster) _ ∙ simp length-take (omega arith) in
-    let some : 1 ≤ length z = simp (length-append, length-take) (omega (arith, start .pre .0)) in
+    let some : 1 ≤ length z = simp (length-append, length-take) (omega (arith, start .pre .0, found .start .ensures)) in
     rw (first, second) (ap (λ (l : List ℕ). set l 0 0) (mid-mid z partitions keys 1 8 8 some eight) ∙ on-cleared z partitions keys some past)
 
 pub fill-spec : {M : Type 1} → statement M
 fill-spec =
     tie.close
     (tie.spec
+    start-requires
+    cast-rows
+    cast-end
+    mul-clear
     sub-clear
     part-clear-start
     part-clear-end

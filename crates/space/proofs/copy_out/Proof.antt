@@ -1,23 +1,31 @@
 -- `copy_out` meets its contract: the words that it copies are the row's first fields, which stand within the space.
 use native.Mathlib.Omega.{arith}
-use Prim.Native.Nat.{_+_, _*_}
+use mathlib.Core.Path.{_≡_}
+use Prim.Native.Nat.{_+_}
+use Rattle.rules.specs.Words.{rowStart}
 use Rattle.space.proofs.Seeking.{copied}
 use borrow.Author.Needs.{needs}
 use Rattle.space.proofs.copy_out.Statement.{statement}
 use Rattle.space.proofs.copy_out.Tie as tie
 
--- the places of the walk, each by its way to the one before it: where the row's fields are found, copied, and the end
-abbrev fields-start : tie.After-slice-known → tie.Start
-fields-start c = c .before .before
+-- the places of the walk, each by its way to the one before it: where the row's start is found, its fields copied, and the end
+abbrev found-start : tie.After-start → tie.Start
+found-start c = c .before .before .before
 
-abbrev copied-fields : tie.After-copy-in → tie.After-slice-known
-copied-fields c = c .before .before .before
+abbrev copied-found : tie.After-copy-in → tie.After-start
+copied-found c = c .before .before .before
 
 abbrev end-copied : tie.After-slice-known2 → tie.After-copy-in
 end-copied c = c .before .before
 
-mul-at : tie.Need-mul-at
-mul-at c = search needs
+cast-start : tie.Need-cast-start
+cast-start c = search needs
+
+start-requires : tie.Need-start-requires
+start-requires c κs = search needs
+
+cast-at : tie.Need-cast-at
+cast-at c = search needs
 
 add-at : tie.Need-add-at
 add-at c = search needs
@@ -46,15 +54,19 @@ same-length c = search needs
 returns : tie.Need-returns
 returns c =
     let copy = end-copied c in
-    let start = fields-start (copied-fields copy) in
+    let found = copied-found copy in
+    let start = found-start found in
     let a = start .args in
-    copied (a .space .now) (a .result .now) _ (23 + 14 * a .row) (a .n) (omega (arith, start .pre)) (copy .copy-in .ensures)
+    let here : found .start .result + 6 ≡ rowStart (a .row) + 6 = omega (arith, found .start .ensures) in
+    copied (a .space .now) (a .result .now) _ (a .row) (a .n) here (omega (arith, start .pre)) (copy .copy-in .ensures)
 
 pub copy-out-spec : {M : Type 1} → statement M
 copy-out-spec =
     tie.close
     (tie.spec
-    mul-at
+    cast-start
+    start-requires
+    cast-at
     add-at
     add-end
     mul-copy-in
