@@ -107,7 +107,7 @@ class Places:
 
 
 SIZE = {"i1": 1, "i8": 1, "i16": 2, "i32": 4, "i64": 8, "ptr": POINTER}
-LENT = 128  # bytes of a slot that are followed: a slice has 16, the words of a roster have 128; a larger slot is refused
+LENT = 512  # bytes of a slot that are followed: a slice has 16, the words of a roster have 128, the list of row starts 512; a larger slot is refused
 
 
 def refuse_mixed_slots(lines):

@@ -1,7 +1,8 @@
 /* The proved library against plain C, call by call, on the machine that this runs on: the answer, every word of space and result,
    what was lent to be read, and guard words around all of it. By itself it is seen that a look leaves every word of the space, and
-   that whoever receives or takes a name holds it. Prints how often each answer was seen and a hash of the whole sequence, which is
-   the same on every machine. Ends with status 1 where the two differ, or where something was never tried. */
+   that whoever receives or takes a name holds it. Calls at random come first, then each of the 128 rows in its turn. Prints how often
+   each answer was seen in the calls at random and a hash of their sequence, which is the same on every machine. Ends with status 1
+   where the two differ, or where something was never tried. */
 #include "calls.h"
 #include "plain.h"
 #include "space.h"
@@ -10,7 +11,7 @@
 #ifndef CALLS
 #define CALLS 120000
 #endif
-enum { GUARDS = 8, BLOCK = 400, ANSWERS = 110 };
+enum { GUARDS = 8, BLOCK = 400, ANSWERS = 110, FIRST_MESSAGE = 1000 };
 
 struct lent {
     uint64_t before[GUARDS], space[WORDS], between[GUARDS], result[MOST_FIELDS], after[GUARDS];
@@ -146,18 +147,25 @@ static const char *difference(uint32_t by_library, uint32_t by_c, const struct c
     return 0;
 }
 
-static uint32_t one_call(const struct call *c, uint32_t number)
+/* Makes the call of both. The answer, or ANSWERS where something differs. */
+static uint32_t alike(const struct call *c, const char *which, uint32_t number)
 {
     struct call kept = *c;
     for (uint32_t i = 0; c->kind > PUT && i < WORDS; i++) earlier[i] = proved.space[i];
     uint32_t a = make(&library, &proved, c), b = make(&by_hand, &plain, c);
     const char *what = difference(a, b, c, &kept);
     if (what) {
-        printf("FAILED at call %u, a call of kind %u: %s: %u and %u\n", (unsigned)number, (unsigned)c->kind, what, (unsigned)a, (unsigned)b);
+        printf("FAILED at %s %u, a call of kind %u: %s: %u and %u\n", which, (unsigned)number, (unsigned)c->kind, what, (unsigned)a, (unsigned)b);
         return ANSWERS;
     }
-    count(c, a);
     return a;
+}
+
+static uint32_t one_call(const struct call *c, uint32_t number)
+{
+    uint32_t answer = alike(c, "call", number);
+    if (answer != ANSWERS) count(c, answer);
+    return answer;
 }
 
 static void turn(uint32_t word, uint64_t bits) { proved.space[word] ^= bits, plain.space[word] ^= bits; }
@@ -190,6 +198,81 @@ static int all_calls(void)
         uint32_t answer = in_block && proved.space[0] <= ROWS && seldom(20) ? damaged_call(&c, n) : one_call(&c, n);
         if (answer == ANSWERS) return 0;
     }
+    return 1;
+}
+
+/* Row by row: what is put into a row differs in every word, but for the field count, from what is put into the rows beside it. */
+static struct call entry_of(uint32_t row)
+{
+    struct call c = {.kind = PUT, .party = row % PARTIES, .space_len = WORDS, .count = MOST_FIELDS, .room = MOST_FIELDS};
+    for (uint32_t i = 0; i < 2; i++) c.partition[i] = (row + 32 * i) % 64, c.key[i] = (int32_t)((row + 32 * i) % 63) - 31;
+    for (uint32_t i = 0; i < MOST_FIELDS; i++) c.list[i] = FIRST_MESSAGE + MOST_FIELDS * row + i;
+    return c;
+}
+
+/* with a template that only that entry matches */
+static struct call search_of(enum kind kind, uint32_t row)
+{
+    struct call c = entry_of(row);
+    c.kind = kind, c.partition[0] = c.partition[kind == TAKE], c.key[0] = -c.key[kind == TAKE];
+    for (uint32_t i = 1; i < MOST_FIELDS; i++) c.list[i] = WILDCARD;
+    return c;
+}
+
+#define BY_ROWS "call row by row"
+static uint32_t in_rows; /* calls made */
+
+static int due(struct call c, uint32_t right)
+{
+    uint32_t answer = alike(&c, BY_ROWS, in_rows);
+    if (answer != right && answer != ANSWERS)
+        printf("FAILED at " BY_ROWS " %u: answered %u and not %u\n", (unsigned)in_rows, (unsigned)answer, (unsigned)right);
+    in_rows++;
+    return answer == right;
+}
+
+static int looked_at_received_and_taken(uint32_t entry)
+{
+    for (enum kind kind = LOOK; kind <= TAKE; kind++)
+        if (!due(search_of(kind, entry), MOST_FIELDS)) return 0;
+    return 1;
+}
+
+/* Each word of a row in its turn is made bad; then a call is refused. */
+static int bad_words_refused(uint32_t row, int is_live)
+{
+    for (uint32_t i = 0; i < ROW; i++) {
+        uint64_t bad = i == WRITER ? PARTIES : i < COUNT ? 64 : i == COUNT ? 1 : WILDCARD;
+        turn(row_at(row) + i, is_live ? bad : 1);
+        if (!due(i % 4 ? search_of(PUT + i % 4, row) : entry_of(row), 101)) return 0;
+        turn(row_at(row) + i, is_live ? bad : 1);
+    }
+    return 1;
+}
+
+/* What stands in a row is taken, so that the later rows move up, and put again. */
+static int taken_and_put(uint32_t row)
+{
+    uint32_t entry = (uint32_t)(proved.space[row_at(row) + FIELDS] - FIRST_MESSAGE) / MOST_FIELDS;
+    return looked_at_received_and_taken(entry) && due(entry_of(entry), 0);
+}
+
+/* Each row is written, found and taken as the newest, then the oldest is taken before it; at last each is taken of 128 live ones. */
+static int all_rows(void)
+{
+    struct call all = {.kind = OPEN, .count = ROSTER, .space_len = WORDS};
+    for (uint32_t i = 0; i < ROSTER; i++) all.list[i] = UINT64_MAX >> (i >= PARTIES);
+    if (!due(all, 0)) return 0;
+    for (uint32_t row = 0; row < ROWS; row++) {
+        if (!bad_words_refused(row, 0)) return 0;
+        /* two writers: a writer 0 that is left when the row is freed is no difference */
+        for (uint32_t entry = row; entry < row + 2 && entry < ROWS; entry++)
+            if (!due(entry_of(entry), 0) || !looked_at_received_and_taken(entry)) return 0;
+        if (!due(entry_of(row), 0) || !taken_and_put(0)) return 0;
+    }
+    for (uint32_t row = 0; row < ROWS; row++)
+        if (!bad_words_refused(row, 1) || !taken_and_put(row)) return 0;
+    printf("calls row by row %u, alike\n", (unsigned)in_rows);
     return 1;
 }
 
@@ -246,7 +329,7 @@ int main(void)
         proved.between[i] = plain.between[i] = guard(GUARDS + i);
         proved.after[i] = plain.after[i] = guard(2 * GUARDS + i);
     }
-    if (!all_calls() || !all_tried()) return 1;
+    if (!all_calls() || !all_rows() || !all_tried()) return 1;
     printf("hash %08x%08x\n%u calls alike\n", (unsigned)(hash >> 32), (unsigned)hash, (unsigned)CALLS);
     return 0;
 }

@@ -22,7 +22,7 @@ DOCTORED = [
     ("assembler", "module", "  ret i32 %r4\n", '  call void asm sideeffect "nop", ""()\n  ret i32 %r4\n', "no kind"),
     ("a slot read as pointer and as number", "module", "  ret i32 %r4\n", "  %x = load i64, ptr %r0, align 8\n  ret i32 %r4\n", "now a pointer, now a number"),
     ("half of a pointer read", "module", "  ret i32 %r4\n", "  %x = getelementptr i8, ptr %r0, i64 4\n  %y = load i32, ptr %x, align 4\n  ret i32 %r4\n", "now a pointer, now a number"),
-    ("a slot of more bytes than are followed", "module", "alloca [128 x i8]", "alloca [136 x i8]", "more bytes than are followed"),
+    ("a slot of more bytes than are followed", "module", "alloca [512 x i8]", "alloca [520 x i8]", "more bytes than are followed"),
     ("a pointer in a slot in which places are computed", "module", "  ret i32 %r4\n", "  %x = alloca [128 x i8], align 8\n  store ptr %a0, ptr %x, align 8\n  %y = getelementptr i8, ptr %x, i64 %a1\n  %z = load i64, ptr %y, align 8\n  ret i32 %r4\n", "now a pointer, now a number"),
     ("a pointer kept in lent words", "module", "  ret i32 %r4\n", "  %x = load ptr, ptr %r0, align 8\n  store ptr %a0, ptr %x, align 8\n  ret i32 %r4\n", "outside a slot"),
     ("another layout of the desk", "module", "-n8:16:32:64-S128", "-n8:16:32:64", "should have this line once"),

@@ -6,6 +6,7 @@ use crate::duel::{Duel, HAPPENINGS};
 use crate::pool::{broken_roster, Maker, Mix, Pool, ALL_PARTIES};
 use crate::report::Report;
 use crate::rng::Rng;
+use crate::rows;
 use crate::space::Space;
 use crate::tables::{damage_at_random, damaged_table, sound_table, Damage};
 use crate::tally::Tally;
@@ -106,7 +107,12 @@ pub fn compare(report: &mut Report, who: &str, system: &mut dyn Space) {
     }
     let tally = &duel.tally;
     print!("{}", tally.table());
-    let expected = [HAPPENINGS.to_vec(), bounds::ALL.concat()].concat();
+    let expected = [
+        HAPPENINGS.to_vec(),
+        bounds::ALL.concat(),
+        rows::ALL.concat(),
+    ]
+    .concat();
     let reached = tally.check(&expected).and_then(|text| {
         if tally.calls() < FEWEST_CALLS {
             return Err(format!("only {} calls", tally.calls()));
@@ -245,7 +251,8 @@ fn one_damage_round(duel: &mut Duel, rng: &mut Rng, round: u64) -> Result<(), St
     }
 }
 
-fn refused_as_unsound(
+/// Each kind of call, made for the sound space, has to be refused on the unsound one.
+pub fn refused_as_unsound(
     duel: &mut Duel,
     rng: &mut Rng,
     pool: &Pool,

@@ -5,6 +5,7 @@ use crate::call::{answer_text, found_fields, Call, Kind};
 use crate::guarded::Guarded;
 use crate::pool::lacks_name_in;
 use crate::rng::Rng;
+use crate::rows;
 use crate::space::Space;
 use crate::tally::Tally;
 use reference::table::{row_start, FIRST_ROW, LIVE, ROWS, WORDS};
@@ -116,15 +117,32 @@ impl<'a> Duel<'a> {
             return Err(difference_text(call, systems, code, &differences));
         }
         self.tally.count(call, code);
-        for what in bounds::happenings(call, code, self.references.result.lent(), &before.rows) {
+        for what in bounds::happenings(call, code, self.references.result.lent(), before.rows()) {
             self.tally.happened(what);
+        }
+        if let Some(row) = self.row_of(call, code, &before) {
+            let whats = rows::happenings(call.kind(), row, before.live);
+            whats.for_each(|what| self.tally.happened(what));
         }
         self.note_happenings(call, code, before);
         Ok(code)
     }
 
+    /// The row that a put wrote, or that was found.
+    fn row_of(&self, call: &Call, code: u32, before: &Sight) -> Option<usize> {
+        match call {
+            Call::Put { .. } if code == 0 => Some(before.live),
+            Call::Find(operation, query) if (1..=8).contains(&code) => {
+                let query = query.of(&query.fields);
+                self.reference
+                    .matching_row(*operation, &before.words, query)
+            }
+            _ => None,
+        }
+    }
+
     fn note_happenings(&mut self, call: &Call, code: u32, before: Sight) {
-        if before.full {
+        if before.live == ROWS {
             self.tally.happened(TABLE_FULL);
         }
         let Call::Find(operation, query) = call else {
@@ -135,7 +153,7 @@ impl<'a> Duel<'a> {
             return;
         }
         let after = Sight::of(self.space());
-        let gained = after.holdings != before.holdings;
+        let gained = after.holdings() != before.holdings();
         match operation {
             Operation::Look if lacks_name_in(self.space(), query.party, found) => {
                 self.tally.happened(NAMES_LOOKED_AT);
@@ -151,33 +169,38 @@ impl<'a> Duel<'a> {
     }
 }
 
-/// What of a space is looked at before and after a call, to tell what happened.
+/// A space before or after a call, to tell what happened; of no table there are no words.
 struct Sight {
-    full: bool,
-    holdings: Vec<u64>,
-    rows: Vec<u64>,
+    words: Vec<u64>,
+    live: usize,
 }
 
 impl Sight {
     fn of(space: &[u64]) -> Sight {
         if space.len() != WORDS || space[LIVE] > ROWS as u64 {
             return Sight {
-                full: false,
-                holdings: Vec::new(),
-                rows: Vec::new(),
+                words: Vec::new(),
+                live: 0,
             };
         }
-        let live = space[LIVE] as usize;
         Sight {
-            full: live == ROWS,
-            holdings: space[LIVE + 1..FIRST_ROW].to_vec(),
-            rows: space[FIRST_ROW..row_start(live)].to_vec(),
+            words: space.to_vec(),
+            live: space[LIVE] as usize,
         }
+    }
+
+    fn holdings(&self) -> &[u64] {
+        self.words.get(LIVE + 1..FIRST_ROW).unwrap_or_default()
+    }
+
+    fn rows(&self) -> &[u64] {
+        let rows = FIRST_ROW..row_start(self.live);
+        self.words.get(rows).unwrap_or_default()
     }
 
     /// Whether the rows that are left aren't just the first of those before.
     fn last_kept_differs(&self, before: &Sight) -> bool {
-        !before.rows.starts_with(&self.rows)
+        !before.rows().starts_with(self.rows())
     }
 }
 

@@ -27,6 +27,7 @@ mod rng;
 mod roster;
 mod roster_files;
 mod roster_tally;
+mod rows;
 mod scripts;
 mod space;
 mod tables;
@@ -88,11 +89,13 @@ fn run_part(report: &mut Report, part: &str) -> Result<(), &'static str> {
             let mut reference = Reference::correct();
             cases::check(report, "reference", &mut reference);
             differential::compare(report, "reference", &mut reference);
+            rows::compare(report, "reference", &mut reference);
             looks::check(report, "reference", &mut reference);
             isolation::check(report, "reference", &mut reference);
         }
         "variants" => {
             variants::check(report);
+            rows::check_variants(report);
             looks::check_variants(report);
             isolation::check_variants(report);
             console::check_variants(report);
@@ -101,6 +104,7 @@ fn run_part(report: &mut Report, part: &str) -> Result<(), &'static str> {
         "cases" => cases::check(report, "library", library()?.as_mut()),
         "differential" => {
             differential::compare(report, "library", library()?.as_mut());
+            rows::compare(report, "library", library()?.as_mut());
             looks::check(report, "library", library()?.as_mut());
             looks::check_closed(report, look()?);
         }

@@ -6,11 +6,11 @@ use crate::names::{
     LAST_PARTITION, MOST_FIELDS, PARTIES,
 };
 use crate::table::{
-    all_field_words, has_bit_63, live_rows, row_fields, row_start, rows_of_writer, Clause, FIELDS,
-    FIELD_COUNT, KEYS, LIMIT, LIVE, PARTITIONS, READ_KEY, READ_PARTITION, ROSTER_WORDS, ROW_WORDS,
-    TAKE_KEY, TAKE_PARTITION, WORDS, WRITER,
+    all_field_words, has_bit_63, row_fields, row_start, Clause, FIELDS, FIELD_COUNT, KEYS, LIMIT,
+    LIVE, PARTITIONS, READ_KEY, READ_PARTITION, ROSTER_WORDS, ROWS, ROW_WORDS, TAKE_KEY,
+    TAKE_PARTITION, WORDS, WRITER,
 };
-use crate::variant::Variant;
+use crate::variant::{Step, Variant};
 
 /// What is done with the entry that is found: it is only looked at, its names are received as
 /// well, or it is also taken away.
@@ -78,7 +78,12 @@ impl Reference {
         if let Some(number) = self.put_refusal(space, party, read, take, fields) {
             return Answer::Refused(number);
         }
-        let start = row_start(space[LIVE] as usize);
+        let live = space[LIVE] as usize;
+        if live == ROWS {
+            // Only a blunder about charges gets here: with every row live, all are at the limit.
+            return Answer::Refused(8);
+        }
+        let start = self.variant.starts(Step::Put).of(live);
         let row = &mut space[start..start + ROW_WORDS];
         row[WRITER] = u64::from(party);
         row[READ_PARTITION] = u64::from(read.partition);
@@ -106,11 +111,10 @@ impl Reference {
         let Some(index) = self.matching_row(operation, space, query) else {
             return Answer::None;
         };
-        let start = row_start(index);
-        let writer = space[start + WRITER] as usize;
-        let found = row_fields(&space[start..start + ROW_WORDS]).to_vec();
+        let writer = space[row_start(index) + WRITER] as usize;
+        let found = row_fields(self.variant.starts(Step::Fields).row(space, index)).to_vec();
         if result.len() < found.len() {
-            // Only the blunder TestsResultLate gets here.
+            // Only a blunder gets here: TestsResultLate, or fields that are another row's.
             return Answer::Refused(6);
         }
         result[..found.len()].copy_from_slice(&found);
@@ -222,8 +226,12 @@ impl Reference {
             .into_iter()
             .filter(|clause| !self.skips(operation, *clause))
             .all(|clause| match clause {
-                Clause::FieldWords => all_field_words(space, |word| self.may_be_in_row(word)),
-                _ => clause.holds(space),
+                Clause::FieldWords => {
+                    let starts = self.variant.starts(Step::Sound);
+                    all_field_words(starts, space, |word| self.may_be_in_row(word))
+                }
+                Clause::RowsPastLive => clause.holds_by(self.variant.starts(Step::PastLive), space),
+                _ => clause.holds_by(self.variant.starts(Step::Sound), space),
             })
     }
 
@@ -278,7 +286,9 @@ impl Reference {
 
     /// The row of the oldest match in a sound space.
     pub fn matching_row(&self, operation: Operation, space: &[u64], query: Query) -> Option<usize> {
-        let mut rows = live_rows(space)
+        let starts = self.variant.starts(Step::Search);
+        let mut rows = starts
+            .live_rows(space)
             .enumerate()
             .filter(|(_, row)| self.matches(operation, row, query))
             .map(|(index, _)| index);
@@ -414,11 +424,23 @@ impl Reference {
 
     /// The rows after it close up, and the last one is cleared.
     fn remove_row(&self, space: &mut [u64], index: usize) {
+        let starts = self.variant.starts(Step::Removal);
         let live = space[LIVE] as usize;
-        space.copy_within(row_start(index + 1)..row_start(live), row_start(index));
-        if self.variant != Variant::LeavesFreedRow {
-            space[row_start(live - 1)..row_start(live)].fill(0);
+        let (start, last) = (starts.of(index), starts.of(live - 1));
+        let moved = match self.variant {
+            Variant::LeavesLastRow | Variant::LosesLastRow => start + ROW_WORDS..last,
+            _ => start + ROW_WORDS..last + ROW_WORDS,
+        };
+        if !moved.is_empty() {
+            space.copy_within(moved, start);
         }
+        let freed = self.variant.starts(Step::Freed).of(live - 1);
+        let cleared = match self.variant {
+            Variant::LeavesFreedRow | Variant::LeavesLastRow => freed..freed,
+            Variant::ClearsTwoRows if live > 1 => freed - ROW_WORDS..freed + ROW_WORDS,
+            _ => freed..freed + ROW_WORDS,
+        };
+        space[cleared].fill(0);
         space[LIVE] -= 1;
     }
 
@@ -426,7 +448,8 @@ impl Reference {
         if self.variant.keeps_charges() {
             self.charges[party]
         } else {
-            rows_of_writer(space, party)
+            let starts = self.variant.starts(Step::Sound);
+            starts.rows_of_writer(space, party)
         }
     }
 
@@ -439,6 +462,9 @@ impl Reference {
 
     /// Of no effect on the right reference, which counts rows.
     fn lower_charge(&mut self, writer: usize, taker: usize) {
+        if !self.variant.keeps_charges() {
+            return;
+        }
         let lowered = match self.variant {
             Variant::NeverLowersCharge => return,
             Variant::LowersTakersCharge => taker,

@@ -23,4 +23,4 @@ pub use names::{co_key, Field, Pair};
 pub use roster::{read_roster, roster, RosterReader};
 pub use roster_variant::RosterVariant;
 pub use table::Clause;
-pub use variant::Variant;
+pub use variant::{Step, Variant};

@@ -39,11 +39,58 @@ pub fn row_start(index: usize) -> usize {
     FIRST_ROW + index * ROW_WORDS
 }
 
+/// Where the rows start: as `row_start` says, but for one row of a reference with a blunder.
+#[derive(Clone, Copy, Debug)]
+pub struct Starts {
+    misplaced: Option<(usize, usize)>,
+}
+
+impl Starts {
+    pub const RIGHT: Starts = Starts { misplaced: None };
+
+    /// With this row at this word, from which there is room for a row.
+    pub fn with(row: usize, start: usize) -> Starts {
+        Starts {
+            misplaced: Some((row, start)),
+        }
+    }
+
+    pub fn of(self, index: usize) -> usize {
+        match self.misplaced {
+            Some((row, start)) if row == index => start,
+            _ => row_start(index),
+        }
+    }
+
+    /// The words of a row.
+    pub fn row(self, space: &[u64], index: usize) -> &[u64] {
+        let start = self.of(index);
+        &space[start..start + ROW_WORDS]
+    }
+
+    /// The live rows, oldest first.
+    pub fn live_rows(self, space: &[u64]) -> impl Iterator<Item = &[u64]> {
+        let live = space[LIVE].min(ROWS as u64) as usize;
+        (0..live).map(move |index| self.row(space, index))
+    }
+
+    /// How many live rows name this party as writer.
+    pub fn rows_of_writer(self, space: &[u64], party: usize) -> usize {
+        self.live_rows(space)
+            .filter(|row| row[WRITER] == party as u64)
+            .count()
+    }
+
+    /// Whether all rows after the live ones are 0.
+    pub fn clear_past_live(self, space: &[u64]) -> bool {
+        (space[LIVE] as usize..ROWS)
+            .all(|index| self.row(space, index).iter().all(|word| *word == 0))
+    }
+}
+
 /// The live rows, oldest first.
 pub fn live_rows(space: &[u64]) -> impl Iterator<Item = &[u64]> {
-    space[FIRST_ROW..WORDS]
-        .chunks_exact(ROW_WORDS)
-        .take(space[LIVE] as usize)
+    Starts::RIGHT.live_rows(space)
 }
 
 /// A row's field words in use.
@@ -54,9 +101,7 @@ pub fn row_fields(row: &[u64]) -> &[u64] {
 
 /// How many live rows name this party as writer.
 pub fn rows_of_writer(space: &[u64], party: usize) -> usize {
-    live_rows(space)
-        .filter(|row| row[WRITER] == party as u64)
-        .count()
+    Starts::RIGHT.rows_of_writer(space, party)
 }
 
 /// Whether a key word has the bit that no key stands for.
@@ -105,6 +150,12 @@ impl Clause {
 
     /// Whether the clause holds of a space of which the clauses before it hold.
     pub fn holds(self, space: &[u64]) -> bool {
+        self.holds_by(Starts::RIGHT, space)
+    }
+
+    /// The same with rows that start there.
+    pub fn holds_by(self, starts: Starts, space: &[u64]) -> bool {
+        let live_rows = || starts.live_rows(space);
         match self {
             Clause::Length => space.len() == WORDS,
             Clause::LiveCount => space[LIVE] <= ROWS as u64,
@@ -113,37 +164,36 @@ impl Clause {
                 .all(|held| held & partition_bit(0) != 0),
             Clause::DefaultKey => key_words(space).iter().all(|held| held & key_bit(0) != 0),
             Clause::KeyBit63 => key_words(space).iter().all(|held| !has_bit_63(*held)),
-            Clause::Writer => live_rows(space).all(|row| row[WRITER] < PARTIES as u64),
+            Clause::Writer => live_rows().all(|row| row[WRITER] < PARTIES as u64),
             Clause::ReadPartition => {
-                live_rows(space).all(|row| row[READ_PARTITION] <= u64::from(LAST_PARTITION))
+                live_rows().all(|row| row[READ_PARTITION] <= u64::from(LAST_PARTITION))
             }
-            Clause::ReadKey => live_rows(space).all(|row| row[READ_KEY] <= LAST_STORED_KEY),
+            Clause::ReadKey => live_rows().all(|row| row[READ_KEY] <= LAST_STORED_KEY),
             Clause::TakePartition => {
-                live_rows(space).all(|row| row[TAKE_PARTITION] <= u64::from(LAST_PARTITION))
+                live_rows().all(|row| row[TAKE_PARTITION] <= u64::from(LAST_PARTITION))
             }
-            Clause::TakeKey => live_rows(space).all(|row| row[TAKE_KEY] <= LAST_STORED_KEY),
+            Clause::TakeKey => live_rows().all(|row| row[TAKE_KEY] <= LAST_STORED_KEY),
             Clause::FieldCount => {
-                live_rows(space).all(|row| (1..=MOST_FIELDS as u64).contains(&row[FIELD_COUNT]))
+                live_rows().all(|row| (1..=MOST_FIELDS as u64).contains(&row[FIELD_COUNT]))
             }
-            Clause::FieldWords => all_field_words(space, may_be_put),
-            Clause::UnusedFieldWords => live_rows(space).all(|row| {
+            Clause::FieldWords => all_field_words(starts, space, may_be_put),
+            Clause::UnusedFieldWords => live_rows().all(|row| {
                 let used = row_fields(row).len();
                 row[FIELDS + used..].iter().all(|word| *word == 0)
             }),
             Clause::LimitOfWriter => {
-                (0..PARTIES).all(|party| rows_of_writer(space, party) <= LIMIT)
+                (0..PARTIES).all(|party| starts.rows_of_writer(space, party) <= LIMIT)
             }
-            Clause::RowsPastLive => space[FIRST_ROW..]
-                .chunks_exact(ROW_WORDS)
-                .skip(space[LIVE] as usize)
-                .all(|row| row.iter().all(|word| *word == 0)),
+            Clause::RowsPastLive => starts.clear_past_live(space),
         }
     }
 }
 
 /// Whether all field words in use are such.
-pub fn all_field_words(space: &[u64], such: impl Fn(u64) -> bool) -> bool {
-    live_rows(space).all(|row| row_fields(row).iter().all(|word| such(*word)))
+pub fn all_field_words(starts: Starts, space: &[u64], such: impl Fn(u64) -> bool) -> bool {
+    starts
+        .live_rows(space)
+        .all(|row| row_fields(row).iter().all(|word| such(*word)))
 }
 
 fn key_words(space: &[u64]) -> &[u64] {

@@ -1,6 +1,35 @@
 //! Known blunders, to test whether a comparison catches them.
 
-use crate::table::Clause;
+use crate::table::{Clause, Starts, FIRST_ROW, ROW_WORDS};
+
+/// The steps of a call that go to rows by their starts.
+#[derive(Clone, Copy, Debug, PartialEq, Eq)]
+pub enum Step {
+    /// The test of the live rows, and the counting of a writer's.
+    Sound,
+    /// The test that all words after them are 0.
+    PastLive,
+    Search,
+    /// The fields of the entry that was found.
+    Fields,
+    Put,
+    /// The closing up of the rows after a taken one.
+    Removal,
+    /// The clearing of the row that is freed by it.
+    Freed,
+}
+
+impl Step {
+    pub const ALL: [Step; 7] = [
+        Step::Sound,
+        Step::PastLive,
+        Step::Search,
+        Step::Fields,
+        Step::Put,
+        Step::Removal,
+        Step::Freed,
+    ];
+}
 
 /// Which reference to be: the right one, or one with a blunder.
 #[derive(Clone, Copy, Debug, PartialEq, Eq)]
@@ -84,6 +113,18 @@ pub enum Variant {
     AtLeastInRowIsSound,
     /// Takes a row with at most for sound.
     AtMostInRowIsSound,
+    /// Leaves the last live row where it is, and as it was, when the rows close up.
+    LeavesLastRow,
+    /// Closes up to the start of the last live row and clears it, so that its entry is lost.
+    LosesLastRow,
+    /// Clears the row before the freed one as well.
+    ClearsTwoRows,
+    /// Has this row start at this word, in one step of a call or in all.
+    Misplaces {
+        row: usize,
+        start: usize,
+        step: Option<Step>,
+    },
     /// Takes the space as sound without testing this clause.
     Skips(Clause),
 }
@@ -144,6 +185,25 @@ impl Variant {
         Variant::AtMostInRowIsSound,
     ];
 
+    /// Slips about where rows start and end, in the first row, one in the middle and the last.
+    pub const ROW_SLIPS: [Variant; 7] = [
+        Variant::LeavesLastRow,
+        Variant::LosesLastRow,
+        Variant::ClearsTwoRows,
+        Variant::misplaces(0, FIRST_ROW - 1),
+        Variant::misplaces(0, FIRST_ROW + 1),
+        Variant::misplaces(64, FIRST_ROW + 64 * ROW_WORDS + 1),
+        Variant::misplaces(127, FIRST_ROW + 126 * ROW_WORDS),
+    ];
+
+    const fn misplaces(row: usize, start: usize) -> Variant {
+        Variant::Misplaces {
+            row,
+            start,
+            step: None,
+        }
+    }
+
     /// Clauses that can be skipped: without the first two there would be no table to look at.
     pub fn skipped_clauses() -> impl Iterator<Item = Variant> {
         Clause::ALL
@@ -161,6 +221,16 @@ impl Variant {
                 | Variant::AtMostInRowIsSound
                 | Variant::Skips(_)
         )
+    }
+
+    /// Where rows start in this step.
+    pub(crate) fn starts(self, in_step: Step) -> Starts {
+        match self {
+            Variant::Misplaces { row, start, step } if step.is_none_or(|step| step == in_step) => {
+                Starts::with(row, start)
+            }
+            _ => Starts::RIGHT,
+        }
     }
 
     /// Whether charges are kept apart from the rows, as only some blunders do.

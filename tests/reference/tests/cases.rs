@@ -123,6 +123,27 @@ fn case_j_limit() {
     assert_eq!(put(&mut space, 0, HERE, &[1]), Answer::Done);
 }
 
+/// By the layout: the first row at word 17, each row 14 words, 128 of them up to word 1,808.
+#[test]
+fn rows_stand_where_the_layout_says() {
+    let mut space = opening();
+    for number in 0..128 {
+        let party = (number / 16) as u32;
+        assert_eq!(put(&mut space, party, DEFAULT, &[number; 8]), Answer::Done);
+    }
+    for (start, number) in [(17, 0), (31, 1), (913, 64), (1_795, 127)] {
+        assert_eq!(space[start..start + 6], [number / 16, 0, 31, 0, 31, 8]);
+        assert_eq!(space[start + 6..start + 14], [number; 8]);
+    }
+    let mut template = [WILDCARD; 8];
+    template[0] = 64;
+    assert_eq!(take(&mut space, 0, DEFAULT, &template).1, [64; 8]);
+    assert_eq!(space[899 + 6..899 + 14], [63; 8]);
+    assert_eq!(space[913 + 6..913 + 14], [65; 8]);
+    assert_eq!(space[1_781 + 6..1_781 + 14], [127; 8]);
+    assert_eq!(space[1_795..1_809], [0; 14]);
+}
+
 #[test]
 fn case_k_names_travel() {
     let mut space = opening();
