@@ -36,7 +36,7 @@ def citations():
 def defined(name, file):
     crate, _, module = file.rpartition("/")
     path = pathlib.Path("crates") / (crate or "rules") / "specs" / f"{module}.antt"
-    return path.exists() and re.search(rf"^(?:abbrev |unfoldable )?pub (?:record |data )?{re.escape(name)}\b", path.read_text(), re.M)
+    return path.exists() and re.search(rf"^ *(?:abbrev |unfoldable )?pub (?:record |data )?{re.escape(name)}\b", path.read_text(), re.M)
 
 
 def exists(name):

@@ -62,28 +62,28 @@ pub fn copy_in(src: &[u64], dst: &mut [u64])
 fn write_row(
     row: &mut [u64],
     writer: u64,
-    rpart: u64,
+    rparts: u64,
     rkey: u64,
-    tpart: u64,
+    tparts: u64,
     tkey: u64,
     fields: &[u64],
 )
     requires { ⌜ (length (now row) ≡ 14) × (length (now fields) ≤ 8) ⌝ }
-    ensures { λ _. ⌜ now (row .exit) ≡ rowOf (entry writer rpart rkey tpart tkey (now (fields .entry))) ⌝ }
+    ensures { λ _. ⌜ now (row .exit) ≡ rowOf (entry writer rparts rkey tparts tkey (now (fields .entry))) ⌝ }
 {
-    write_head(row, writer, rpart, rkey, tpart, tkey, fields.len() as u64);
+    write_head(row, writer, rparts, rkey, tparts, tkey, fields.len() as u64);
     write_fields(&mut row[6..], fields);
 }
 
 // L4: the words before the fields.
-fn write_head(row: &mut [u64], writer: u64, rpart: u64, rkey: u64, tpart: u64, tkey: u64, n: u64)
+fn write_head(row: &mut [u64], writer: u64, rparts: u64, rkey: u64, tparts: u64, tkey: u64, n: u64)
     requires { ⌜ 6 ≤ length (now row) ⌝ }
-    ensures { λ _. ⌜ now (row .exit) ≡ (writer ∷ rpart ∷ rkey ∷ tpart ∷ tkey ∷ n ∷ []) ++ drop 6 (now (row .entry)) ⌝ }
+    ensures { λ _. ⌜ now (row .exit) ≡ (writer ∷ rparts ∷ rkey ∷ tparts ∷ tkey ∷ n ∷ []) ++ drop 6 (now (row .entry)) ⌝ }
 {
     row[0] = writer;
-    row[1] = rpart;
+    row[1] = rparts;
     row[2] = rkey;
-    row[3] = tpart;
+    row[3] = tparts;
     row[4] = tkey;
     row[5] = n;
 }
@@ -102,14 +102,14 @@ fn write_fields(part: &mut [u64], fields: &[u64])
 pub fn add_row(
     space: &mut [u64],
     writer: u64,
-    rpart: u64,
+    rparts: u64,
     rkey: u64,
-    tpart: u64,
+    tparts: u64,
     tkey: u64,
     fields: &[u64],
 )
     requires { ⌜ (sound (now space) ≡ true) × (getD (now space) 0 0 < 128) × (length (now fields) ≤ 8) ⌝ }
-    ensures { λ _. ⌜ now (space .exit) ≡ encode (withEntries (decode (now (space .entry)) .entries ++ (entry writer rpart rkey tpart tkey (now (fields .entry)) ∷ [])) (decode (now (space .entry)))) ⌝ }
+    ensures { λ _. ⌜ now (space .exit) ≡ encode (withEntries (decode (now (space .entry)) .entries ++ (entry writer rparts rkey tparts tkey (now (fields .entry)) ∷ [])) (decode (now (space .entry)))) ⌝ }
 {
     let live = space[0] as u32;
     let at = starts::start(live) as usize;
@@ -117,9 +117,9 @@ pub fn add_row(
     write_row(
         &mut space[at..end],
         writer,
-        rpart,
+        rparts,
         rkey,
-        tpart,
+        tparts,
         tkey,
         fields,
     );

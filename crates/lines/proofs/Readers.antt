@@ -17,11 +17,12 @@ use Rattle.rules.proofs.ListLaws.{bool}
 use Rattle.rules.proofs.KeyLaws.{stored-le}
 use Rattle.text.specs.Numbers.{unsigned, signed}
 use Rattle.text.specs.Fields.{readFields, wordsAfter}
-use Rattle.text.specs.Answers.{signedOf, countOf}
+use Rattle.text.specs.Answers.{signedOf, setOf, countOf}
 use Rattle.text.proofs.ListReading.{words-read}
 use Rattle.text.specs.declared.Fields.{Fields}
 use Rattle.text.specs.declared.Fields.the-variants as reader
 use Rattle.text.specs.declared.SignedNumber.the-variants.{Value, Unreadable}
+use Rattle.text.specs.declared.Partitions.the-variants as partitions
 use Rattle.lines.specs.declared.Gift.{Gift}
 use Rattle.lines.specs.declared.Gift.the-variants as gift
 use Rattle.lines.specs.declared.Line.the-variants as line
@@ -38,6 +39,16 @@ pub some-key : (o : Option ℤ) (k : ℤ) → Value k ≡ signedOf o → o ≡ s
 unfolding signedOf
 some-key none k e = let z : _≡_ {A = ℕ} 0 1 = cc in absurd (omega arith)
 some-key (some j) k e = let z : j ≡ k = cc in ap some z
+
+pub no-set : (o : Option ℕ) → partitions.Unreadable ≡ setOf o → o ≡ none
+unfolding setOf
+no-set none e = refl
+no-set (some set) e = let z : _≡_ {A = ℕ} 0 1 = cc in absurd (omega arith)
+
+pub some-set : (o : Option ℕ) (set : ℕ) → partitions.Set set ≡ setOf o → o ≡ some set
+unfolding setOf
+some-set none set e = let z : _≡_ {A = ℕ} 0 1 = cc in absurd (omega arith)
+some-set (some s) set e = let z : s ≡ set = cc in ap some z
 
 -- ---- fields
 

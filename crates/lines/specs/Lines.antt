@@ -10,6 +10,7 @@ use Rattle.rules.specs.Matching.{Pair, pair, Op, looking, receiving, taking}
 use Rattle.rules.specs.Calls.{Call, put, seek}
 use Rattle.rules.specs.Words.{zeros}
 use Rattle.text.specs.Numbers.{unsigned, signed}
+use Rattle.text.specs.Partitions.{readPartitions}
 use Rattle.numbers.specs.Parts.{before, same}
 use Rattle.text.specs.Fields.{readFields}
 
@@ -83,9 +84,9 @@ pairOf none k = none
 pairOf (some p) none = none
 pairOf (some p) (some k) = some (pair p k)
 
--- the pair in items i and i + 1
+-- T13, T14: the pair in items i and i + 1: a set and a signed key
 abbrev pub readPair : ℕ → List ℕ → Option (Pair ℤ)
-readPair i line = pairOf (unsigned (item i line)) (signed (item (suc i) line))
+readPair i line = pairOf (readPartitions (item i line)) (signed (item (suc i) line))
 
 abbrev pub putOf : Option ℕ → Option (Pair ℤ) → Option (Pair ℤ) → Option (List ℕ) → Option Line
 putOf none r t fs = none

@@ -2,6 +2,7 @@
 use search::Op;
 use text::Fields;
 use text::Number;
+use text::Partitions;
 use text::SignedNumber;
 ghost use mathlib.Core.Path.{_≡_};
 ghost use mathlib.Core.Bool.{cond};
@@ -12,8 +13,9 @@ ghost use lib.Dec.{leb};
 ghost use lib.ListN.{length};
 ghost use Rattle.rules.specs.Names.{keyInRange, stored};
 ghost use Rattle.text.specs.Numbers.{unsigned, signed};
+ghost use Rattle.text.specs.Partitions.{readPartitions};
 ghost use Rattle.text.specs.Fields.{readFields};
-ghost use Rattle.text.specs.Answers.{numberOf, signedOf};
+ghost use Rattle.text.specs.Answers.{numberOf, signedOf, setOf};
 ghost use Rattle.search.specs.Place as place;
 ghost use Rattle.numbers.specs.Parts.{same};
 ghost use Rattle.lines.specs.Lines.{blanks, item, dash, optional, pairOf, readGive, readPut, readSeek, opOf, readLine};
@@ -43,18 +45,18 @@ enum ReadOp {
     Unreadable,
 }
 
-// A partition and a key.
+// A set of partitions and a key.
 enum ReadPair {
-    Value(u32, i32),
+    Value(u64, i32),
     Unreadable,
 }
 
 // C2 to C4, C8: a call. Its number of fields comes last; their words are the first of those lent.
 pub enum Call {
     // The party, the read pair, the take pair.
-    Put(u32, u32, i32, u32, i32, usize),
+    Put(u32, u64, i32, u64, i32, usize),
     // Look, receive or take, the party, the template's pair.
-    Seek(Op, u32, u32, i32, usize),
+    Seek(Op, u32, u64, i32, usize),
 }
 
 // T11: what a line asks for.
@@ -130,16 +132,25 @@ fn key_in(line: &[u8], i: usize) -> SignedNumber
     text::read_signed(&line[start..end])
 }
 
-fn pair_in(line: &[u8], i: usize, j: usize) -> ReadPair
-    ensures { λ r. ⌜ meantPair r ≡ pairOf (unsigned (item i (now (line .entry)))) (signed (item j (now (line .entry)))) ⌝ }
+fn partitions_in(line: &[u8], i: usize) -> Partitions
+    ensures { λ r. ⌜ r ≡ setOf (readPartitions (item i (now (line .entry)))) ⌝ }
 {
-    let Number::Value(partition) = number_in(line, i) else {
+    let part = item(line, i);
+    let start = part.start;
+    let end = part.end;
+    text::read_partitions(&line[start..end])
+}
+
+fn pair_in(line: &[u8], i: usize, j: usize) -> ReadPair
+    ensures { λ r. ⌜ meantPair r ≡ pairOf (readPartitions (item i (now (line .entry)))) (signed (item j (now (line .entry)))) ⌝ }
+{
+    let Partitions::Set(partitions) = partitions_in(line, i) else {
         return ReadPair::Unreadable;
     };
     let SignedNumber::Value(key) = key_in(line, j) else {
         return ReadPair::Unreadable;
     };
-    ReadPair::Value(partition, key)
+    ReadPair::Value(partitions, key)
 }
 
 // T12, T14: `-` for both.
@@ -225,16 +236,16 @@ fn read_put(line: &[u8], words: &mut [u64]) -> Line
     let Number::Value(who) = number_in(line, 1) else {
         return Line::Unreadable;
     };
-    let ReadPair::Value(rpart, rkey) = pair_in(line, 2, 3) else {
+    let ReadPair::Value(rparts, rkey) = pair_in(line, 2, 3) else {
         return Line::Unreadable;
     };
-    let ReadPair::Value(tpart, tkey) = pair_in(line, 4, 5) else {
+    let ReadPair::Value(tparts, tkey) = pair_in(line, 4, 5) else {
         return Line::Unreadable;
     };
     let Fields::Count(n) = fields_in(line, 6, words) else {
         return Line::Unreadable;
     };
-    Line::Ask(Call::Put(who, rpart, rkey, tpart, tkey, n))
+    Line::Ask(Call::Put(who, rparts, rkey, tparts, tkey, n))
 }
 
 // T14
@@ -248,13 +259,13 @@ fn read_seek(op: Op, line: &[u8], words: &mut [u64]) -> Line
     let Number::Value(who) = number_in(line, 1) else {
         return Line::Unreadable;
     };
-    let ReadPair::Value(partition, key) = pair_in(line, 2, 3) else {
+    let ReadPair::Value(partitions, key) = pair_in(line, 2, 3) else {
         return Line::Unreadable;
     };
     let Fields::Count(n) = fields_in(line, 6, words) else {
         return Line::Unreadable;
     };
-    Line::Ask(Call::Seek(op, who, partition, key, n))
+    Line::Ask(Call::Seek(op, who, partitions, key, n))
 }
 
 // T11

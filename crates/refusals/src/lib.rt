@@ -8,6 +8,7 @@ ghost use Prim.Native.Nat.{_≤_, _<_};
 ghost use lib.ListN.{length};
 ghost use Rattle.rules.specs.Lists.{all};
 ghost use Rattle.rules.specs.Names.{keyInRange, heldIn};
+ghost use Rattle.rules.specs.Partitions.{sets};
 ghost use Rattle.rules.specs.Fields.{templateField, namesIn};
 ghost use Rattle.rules.specs.Matching.{pair, storedPair};
 ghost use Rattle.rules.specs.State.{holds, live};
@@ -38,27 +39,35 @@ enum Begun {
 pub fn of_put(
     space: &[u64],
     party: u32,
-    rpart: u32,
-    rkey: i32,
-    tpart: u32,
-    tkey: i32,
+    read_partitions: u64,
+    read_key: i32,
+    take_partitions: u64,
+    take_key: i32,
     fields: &[u64],
 ) -> Verdict
-    ensures { λ r. ⌜ r ≡ verdict ((not (sound (now (space .entry))), 1) ∷ putTable (decode (now (space .entry))) party (pair rpart rkey) (pair tpart tkey) (now (fields .entry))) ⌝ }
+    ensures { λ r. ⌜ r ≡ verdict ((not (sound (now (space .entry))), 1) ∷ putTable sets (decode (now (space .entry))) party (pair «read_partitions» «read_key») (pair «take_partitions» «take_key») (now (fields .entry))) ⌝ }
 {
     let begun = first_tests(space, party, fields);
     let Begun::Live(live) = begun else {
         return Verdict::Refused(refusal(begun));
     };
-    let bad_read = bad_pair(rpart, rkey);
-    let bad_take = bad_pair(tpart, tkey);
+    let bad_read = bad_pair(read_partitions, read_key);
+    let bad_take = bad_pair(take_partitions, take_key);
     if bad_read | bad_take {
         return Verdict::Refused(4);
     }
     if !rows::put_fields(fields) {
         return Verdict::Refused(5);
     }
-    if !put_held(space, party, rpart, rkey, tpart, tkey, fields) {
+    if !put_held(
+        space,
+        party,
+        read_partitions,
+        read_key,
+        take_partitions,
+        take_key,
+        fields,
+    ) {
         return Verdict::Refused(7);
     }
     if 16 <= live {
@@ -71,18 +80,18 @@ pub fn of_put(
 pub fn of_seek(
     space: &[u64],
     party: u32,
-    partition: u32,
+    partitions: u64,
     key: i32,
     template: &[u64],
     room: usize,
 ) -> Admission
-    ensures { λ r. ⌜ r ≡ admittedBy (verdict ((not (sound (now (space .entry))), 1) ∷ seekTable (decode (now (space .entry))) party (pair partition key) (now (template .entry)) room)) (all plain (now (template .entry))) ⌝ }
+    ensures { λ r. ⌜ r ≡ admittedBy (verdict ((not (sound (now (space .entry))), 1) ∷ seekTable sets (decode (now (space .entry))) party (pair partitions key) (now (template .entry)) room)) (all plain (now (template .entry))) ⌝ }
 {
     let begun = first_tests(space, party, template);
     let Begun::Live(_) = begun else {
         return Admission::Refused(refusal(begun));
     };
-    if bad_pair(partition, key) {
+    if bad_pair(partitions, key) {
         return Admission::Refused(4);
     }
     let unbounded = plain_fields(template);
@@ -92,7 +101,7 @@ pub fn of_seek(
     if room < template.len() {
         return Admission::Refused(6);
     }
-    if !seek_held(space, party, partition, key, template) {
+    if !seek_held(space, party, partitions, key, template) {
         return Admission::Refused(7);
     }
     admitted(unbounded)
@@ -148,11 +157,11 @@ fn refusal(begun: Begun) -> u32
 }
 
 // R4
-fn bad_pair(partition: u32, key: i32) -> bool
-    ensures { λ r. ⌜ r ≡ badPair (pair partition key) ⌝ }
+fn bad_pair(set: u64, key: i32) -> bool
+    ensures { λ r. ⌜ r ≡ badPair sets (pair set key) ⌝ }
 {
     let in_range = words::key_in_range(key);
-    (63 < partition) | !in_range
+    (set == 0) | !in_range
 }
 
 // R5. Plain fields need no second look.
@@ -202,28 +211,28 @@ fn template_fields(template: &[u64]) -> bool
 fn put_held(
     space: &[u64],
     party: u32,
-    rpart: u32,
-    rkey: i32,
-    tpart: u32,
-    tkey: i32,
+    read_partitions: u64,
+    read_key: i32,
+    take_partitions: u64,
+    take_key: i32,
     fields: &[u64],
 ) -> bool
-    requires { ⌜ (length (now space) ≡ 1809) × (party < 8) × (keyInRange rkey ≡ true) × (keyInRange tkey ≡ true) × (length (now fields) ≤ 8) ⌝ }
-    ensures { λ r. ⌜ r ≡ all (holds (decode (now (space .entry))) party) (putNames (pair rpart rkey) (pair tpart tkey) (now (fields .entry))) ⌝ }
+    requires { ⌜ (length (now space) ≡ 1809) × (party < 8) × (keyInRange «read_key» ≡ true) × (keyInRange «take_key» ≡ true) × (length (now fields) ≤ 8) ⌝ }
+    ensures { λ r. ⌜ r ≡ all (holds (decode (now (space .entry))) party) (putNames sets (pair «read_partitions» «read_key») (pair «take_partitions» «take_key») (now (fields .entry))) ⌝ }
 {
     let p = party as usize;
     let partitions = space[1 + p];
     let keys = space[9 + p];
-    let read_held = pair_held(partitions, keys, rpart, rkey);
-    let take_held = pair_held(partitions, keys, tpart, tkey);
+    let read_held = pair_held(partitions, keys, read_partitions, read_key);
+    let take_held = pair_held(partitions, keys, take_partitions, take_key);
     let names_held = fields_held(partitions, keys, fields);
     read_held & (take_held & names_held)
 }
 
 // R7. The names in fields first, so that the pair takes no registers meanwhile.
-fn seek_held(space: &[u64], party: u32, partition: u32, key: i32, template: &[u64]) -> bool
+fn seek_held(space: &[u64], party: u32, set: u64, key: i32, template: &[u64]) -> bool
     requires { ⌜ (length (now space) ≡ 1809) × (party < 8) × (keyInRange key ≡ true) × (length (now template) ≤ 8) ⌝ }
-    ensures { λ r. ⌜ r ≡ all (holds (decode (now (space .entry))) party) (seekNames (pair partition key) (now (template .entry))) ⌝ }
+    ensures { λ r. ⌜ r ≡ all (holds (decode (now (space .entry))) party) (seekNames sets (pair set key) (now (template .entry))) ⌝ }
 {
     let p = party as usize;
     let partitions = space[1 + p];
@@ -231,18 +240,18 @@ fn seek_held(space: &[u64], party: u32, partition: u32, key: i32, template: &[u6
     if !fields_held(partitions, keys, template) {
         return false;
     }
-    pair_held(partitions, keys, partition, key)
+    pair_held(partitions, keys, set, key)
 }
 
 // R7: the names of a pair.
-fn pair_held(partitions: u64, keys: u64, partition: u32, key: i32) -> bool
+fn pair_held(partitions: u64, keys: u64, set: u64, key: i32) -> bool
     requires { ⌜ keyInRange key ≡ true ⌝ }
-    ensures { λ r. ⌜ r ≡ all (heldIn partitions keys) (pairNames (storedPair (pair partition key))) ⌝ }
+    ensures { λ r. ⌜ r ≡ all (heldIn partitions keys) (pairNames sets (storedPair (pair set key))) ⌝ }
 {
-    let has_partition = words::has_bit(partitions, partition as u64);
+    let has_partitions = words::set_held(partitions, set);
     let stored = words::stored_key(key);
     let has_key = words::has_bit(keys, stored);
-    has_partition & has_key
+    has_partitions & has_key
 }
 
 // R7: the names in fields.

@@ -4,7 +4,6 @@ pub mod Faults
 pub mod GivenRights
 pub mod RosterRights
 pub mod FileRights
-pub mod Members
 pub mod PrintedLines
 pub mod PrintedShort
 pub mod ReadBack

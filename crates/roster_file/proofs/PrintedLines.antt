@@ -4,30 +4,22 @@ use mathlib.Core.Path.{_≡_, refl, sym, ap, _∙_, subst}
 use mathlib.Core.Logic.{_⊎_, inl, inr}
 use mathlib.Core.Bool.{true, not}
 use mathlib.Core.List.{List, [], _∷_, _++_, map, append-assoc}
-use native.Mathlib.Omega.{arith}
 use lib.Dec.{eqb}
 use lib.ListN.{getD}
 use Rattle.rules.specs.Lists.{In}
-use Rattle.rules.specs.Names.{Name, partition, key, bit, heldIn}
+use Rattle.rules.specs.Names.{Name, partition, key, bitsIn, heldIn}
 use Rattle.rules.specs.Words.{parties}
+use Rattle.rules.proofs.Members.{in-left, in-right, append-in, in-map, map-in}
+use Rattle.rules.proofs.SetLaws.{in-bits, bits-in}
 use Rattle.rules.proofs.Loops.{all-append}
 use Rattle.numbers.specs.Numbers.{decimal, keyOf}
 use Rattle.numbers.specs.Parts.{parts}
 use Rattle.numbers.proofs.NumbersBack.{free, decimal-free, key-free, part-then}
 use Rattle.roster_file.specs.Rights.{bitOf}
 use Rattle.roster_file.specs.File.{namesLine}
-use Rattle.roster_file.specs.Printed.{from, bitsIn, namesIn, nameText, rightText, namesText, partyText, partiesText, printed}
-use Rattle.roster_file.proofs.Members.{in-left, in-right, append-in, in-map, map-in, in-keep, keep-in, in-from, from-in}
+use Rattle.roster_file.specs.Printed.{namesIn, nameText, rightText, namesText, partyText, partiesText, printed}
 
 -- ---- the names in two words
-
-in-bits : (w c : ℕ) → c < 64 → bit w c ≡ true → In c (bitsIn w)
-unfolding bitsIn
-in-bits w c h e = in-keep (bit w) c (from 0 64) (in-from c 0 64 (omega arith) h) e
-
-bits-in : (w c : ℕ) → In c (bitsIn w) → (c < 64) × (bit w c ≡ true)
-unfolding bitsIn
-bits-in w c h = let k = keep-in (bit w) c (from 0 64) h in (from-in c 0 64 (k .0), k .1)
 
 pub in-names : (ps ks : ℕ) (n : Name) → bitOf n < 64 → heldIn ps ks n ≡ true → In n (namesIn ps ks)
 unfolding heldIn

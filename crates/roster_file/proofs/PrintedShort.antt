@@ -4,15 +4,15 @@ use mathlib.Core.List.{List, [], _∷_, map}
 use native.Mathlib.Nat.{le-refl}
 use native.Mathlib.Omega.{arith}
 use lib.ListN.{length, getD, length-append, length-map}
-use Rattle.rules.specs.Lists.{All}
-use Rattle.rules.specs.Names.{Name, partition, key, bit}
+use Rattle.rules.specs.Lists.{All, from}
+use Rattle.rules.specs.Names.{Name, partition, key, bit, bitsIn}
 use Rattle.rules.specs.Words.{parties}
 use Rattle.numbers.specs.Numbers.{decimal}
 use Rattle.numbers.proofs.Keys.{decimal-short, key-short}
 use Rattle.roster_file.specs.Rights.{bitOf}
 use Rattle.roster_file.specs.File.{namesLine}
-use Rattle.roster_file.specs.Printed.{from, bitsIn, nameText, rightText, namesText, partyText, partiesText, printed}
-use Rattle.roster_file.proofs.Members.{keep-short, All-in, from-in}
+use Rattle.roster_file.specs.Printed.{nameText, rightText, namesText, partyText, partiesText, printed}
+use Rattle.rules.proofs.Members.{keep-short, All-in, from-in}
 use Rattle.roster_file.proofs.PrintedLines.{names-in, namesOf}
 
 name-short : (n : Name) → bitOf n < 64 → length (nameText n) ≤ 5

@@ -23,7 +23,7 @@ use Rattle.roster_file.specs.Claims.{LineGives, GivesRight, EveryRosterR
 use Rattle.roster_file.proofs.GivenRights.{gives-same, line-back}
 use Rattle.roster_file.proofs.RosterRights.{has, has-bit, word-low, Good, accepts-good, same-rights}
 use Rattle.roster_file.proofs.FileRights.{idle, names-idle, end-idle, file-fill, file-gives, accepted-opens}
-use Rattle.roster_file.proofs.Members.{in-left, append-in, in-from, from-in, All-in}
+use Rattle.rules.proofs.Members.{in-left, append-in, in-from, from-in, All-in}
 use Rattle.roster_file.proofs.PrintedLines.{in-names, names-in, namesOf, linesOf, LineOf, in-lines, lines-in, printed-parts}
 use Rattle.roster_file.proofs.PrintedShort.{printed-short}
 

@@ -1,21 +1,11 @@
 -- What is printed of a roster, and the program's whole output as a function of its whole input.
 use mathlib.Core.List.{List, [], _∷_, _++_, map}
-use Prim.Native.Nat.{ℕ, zero, suc, _+_}
+use Prim.Native.Nat.{ℕ, _+_}
 use lib.ListN.{getD}
-use Rattle.rules.specs.Lists.{keep}
-use Rattle.rules.specs.Names.{Name, partition, key, bit}
+use Rattle.rules.specs.Names.{Name, partition, key, bitsIn}
 use Rattle.rules.specs.Words.{parties}
 use Rattle.numbers.specs.Numbers.{decimal, decimalKey, keyOf}
 use Rattle.roster_file.specs.File.{Outcome, accepted, refused, namesLine, readFile}
-
--- n numbers from i on
-abbrev pub from : ℕ → ℕ → List ℕ
-from i zero = []
-from i (suc n) = i ∷ from (suc i) n
-
--- D6: the bits of a word, smallest first
-unfoldable pub bitsIn : ℕ → List ℕ
-bitsIn w = keep (bit w) (from 0 64)
 
 -- D6: the names in a partition word and a key word: partitions before keys, smallest number first
 abbrev pub namesIn : ℕ → ℕ → List Name

@@ -6,13 +6,13 @@ use mathlib.Core.List.{List, [], _∷_, _++_, map, append-assoc}
 use native.Mathlib.Numerals.{add-one}
 use native.Mathlib.Omega.{arith}
 use lib.ListN.{length, getD}
-use Rattle.rules.specs.Lists.{keep}
-use Rattle.rules.specs.Names.{Name, partition, key, bit}
+use Rattle.rules.specs.Lists.{keep, from}
+use Rattle.rules.specs.Names.{Name, partition, key, bit, bitsIn}
 use Rattle.rules.specs.Words.{parties}
 use Rattle.numbers.specs.Numbers.{decimal}
 use Rattle.numbers.proofs.Placed.{Unfinished, begun}
 use Rattle.roster_file.specs.File.{namesLine}
-use Rattle.roster_file.specs.Printed.{from, bitsIn, nameText, rightText, namesText, partyText, partiesText, printed}
+use Rattle.roster_file.specs.Printed.{nameText, rightText, namesText, partyText, partiesText, printed}
 use Rattle.roster_print.specs.Answers.{named}
 use Rattle.roster_print.specs.declared.Kind.the-variants as kind
 

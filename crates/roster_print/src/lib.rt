@@ -6,7 +6,8 @@ ghost use Prim.Native.Nat.{_+_, _<_, _≤_};
 ghost use lib.ListN.{length};
 ghost use Rattle.numbers.specs.Written.{Written};
 ghost use Rattle.roster_file.specs.File.{readFile, refused};
-ghost use Rattle.roster_file.specs.Printed.{bitsIn, nameText, rightText, namesText, partyText, printed, outputOf, output};
+ghost use Rattle.rules.specs.Names.{bitsIn};
+ghost use Rattle.roster_file.specs.Printed.{nameText, rightText, namesText, partyText, printed, outputOf, output};
 ghost use Rattle.roster_print.specs.Answers.{named, printedBy, SetUpBy};
 
 // Whether a word's bits are partitions or keys.

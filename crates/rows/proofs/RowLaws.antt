@@ -11,6 +11,7 @@ use lib.Dec.{leb}
 use lib.ListN.{length, getD, take, drop, length-take, length-drop, take-append-drop}
 use lib.Seq.{take-all, take-take, take-add, drop-drop, drop-at, getD-take}
 use Rattle.rules.specs.Lists.{all}
+use Rattle.rules.specs.Partitions.{sets}
 use Rattle.rules.specs.Fields.{field, putField}
 use Rattle.rules.specs.Words.{isZero, headOk, rowOk}
 use Rattle.rules.proofs.ListLaws.{bool, and-left, and-right}
@@ -27,15 +28,15 @@ to-end true true true true e y = refl
 pub count-first : (r : List ℕ)
     → (leb 1 (getD r 5 0)
     && (leb (getD r 5 0) 8
-    && (leb (getD r 0 0) 7 && (leb (getD r 1 0) 63 && (leb (getD r 2 0) 62 && (leb (getD r 3 0) 63 && leb (getD r 4 0) 62))))))
+    && (leb (getD r 0 0) 7 && (sets .inRange (getD r 1 0) && (leb (getD r 2 0) 62 && (sets .inRange (getD r 3 0) && leb (getD r 4 0) 62))))))
     ≡ headOk r
 count-first r =
     let some : Bool = leb 1 (getD r 5 0) in
     let few : Bool = leb (getD r 5 0) 8 in
-    let others : Bool = leb (getD r 0 0) 7 && (leb (getD r 1 0) 63 && (leb (getD r 2 0) 62 && (leb (getD r 3 0) 63 && leb (getD r 4 0) 62))) in
+    let others : Bool = leb (getD r 0 0) 7 && (sets .inRange (getD r 1 0) && (leb (getD r 2 0) 62 && (sets .inRange (getD r 3 0) && leb (getD r 4 0) 62))) in
     sym (and-assoc some few others)
     ∙ and-comm (some && few) others
-    ∙ to-end (leb (getD r 0 0) 7) (leb (getD r 1 0) 63) (leb (getD r 2 0) 62) (leb (getD r 3 0) 63) (leb (getD r 4 0) 62) (some && few)
+    ∙ to-end (leb (getD r 0 0) 7) (sets .inRange (getD r 1 0)) (leb (getD r 2 0) 62) (sets .inRange (getD r 3 0)) (leb (getD r 4 0) 62) (some && few)
 
 -- S6: the head bounds the number of fields
 pub few-fields : (r : List ℕ) → headOk r ≡ true → getD r 5 0 ≤ 8

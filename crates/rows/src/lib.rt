@@ -42,13 +42,13 @@ fn head_ok(row: &[u64]) -> bool
     ensures { λ r. ⌜ r ≡ headOk (now (row .entry)) ⌝ }
 {
     let writer = row[0] <= 7;
-    let read_partition = row[1] <= 63;
+    let read_partitions = row[1] != 0;
     let read_key = row[2] <= 62;
-    let take_partition = row[3] <= 63;
+    let take_partitions = row[3] != 0;
     let take_key = row[4] <= 62;
     let some = 1 <= row[5];
     let few = row[5] <= 8;
-    some & (few & (writer & (read_partition & (read_key & (take_partition & take_key)))))
+    some & (few & (writer & (read_partitions & (read_key & (take_partitions & take_key)))))
 }
 
 // S7: the words of the row from that one on are 0.

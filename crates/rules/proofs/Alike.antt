@@ -9,16 +9,19 @@ use lib.Dec.{ltb, ltb→lt}
 use lib.ListN.{length}
 use Rattle.rules.specs.Lists.{keep, first, without, All}
 use Rattle.rules.specs.Names.{Name}
+use Rattle.rules.specs.Partitions.{sets}
+use Rattle.rules.specs.Fields.{namesIn}
 use Rattle.rules.specs.Matching.{storedPair, Entry, Op, looking, receiving, taking, matches}
 use Rattle.rules.specs.State.{State, holds, withEntries, wrote, live}
-use Rattle.rules.specs.Calls.{Call, put, seek, firstThatApplies, putNames, seekNames, putTable, seekTable, table}
+use Rattle.rules.specs.Calls.{Call, put, seek, firstThatApplies, pairNames, putNames, seekNames, putTable, seekTable, table}
 use Rattle.rules.specs.Calls.{Outcome, decided, entryOf, removes, remaining, gained, finding, serve, step}
+use Rattle.rules.specs.Runs.{stateReply}
 use Rattle.rules.specs.Group.{Group, member, byGroup, CallInGrasp, unrefused, groupEntries}
 use Rattle.rules.proofs.BitLaws.{tOf, eqb-true}
-use Rattle.rules.proofs.ListLaws.{and-left, all-same, All-map, keep-append, first-keep, without-keep, without-others, keep-keep}
+use Rattle.rules.proofs.ListLaws.{and-left, all-same, All-map, All-left, keep-append, first-keep, without-keep, without-others, keep-keep}
 use Rattle.rules.proofs.Gifts.{giveAll-entries, SameWords, holds-same, giveAll-alike}
-use Rattle.rules.proofs.StateRuns.{stateReply, step-cases, serve-unrefused}
-use Rattle.rules.proofs.Grasp.{Apart, Closed, ours-miss, others-miss, others-words, needed-inside}
+use Rattle.rules.proofs.StateRuns.{step-cases, serve-unrefused}
+use Rattle.rules.proofs.Grasp.{Contains, Apart, Closed, ours-miss, others-miss, others-words, needed-inside}
 
 -- the members hold the same, and have the same live entries
 pub record SameView (g : Group) (s₁ s₂ : State) : Type 0 where
@@ -59,15 +62,15 @@ module _ (g : Group) where
       f : (e : Entry) → wrote who e ≡ true → own e ≡ true
       f e k = ap (member g) (eqb-true (e .writer) who k) ∙ hw
 
-  table-alike : (s₁ s₂ : State) (c : Call ℕ) → byGroup g c ≡ true → SameView g s₁ s₂ → table s₁ c ≡ table s₂ c
+  table-alike : (s₁ s₂ : State) (c : Call ℕ) → byGroup g c ≡ true → SameView g s₁ s₂ → table sets s₁ c ≡ table sets s₂ c
   unfolding byGroup putTable seekTable
   table-alike s₁ s₂ (put who r t fs) hw h =
       rw (
-        all-same (holds s₁ who) (holds s₂ who) (holds-same who s₁ s₂ (h .held who hw)) (putNames r t fs),
+        all-same (holds s₁ who) (holds s₂ who) (holds-same who s₁ s₂ (h .held who hw)) (putNames sets r t fs),
         live-alike who s₁ s₂ hw (h .entries),
       ) refl
   table-alike s₁ s₂ (seek op who p t room) hw h =
-      rw (all-same (holds s₁ who) (holds s₂ who) (holds-same who s₁ s₂ (h .held who hw)) (seekNames p t)) refl
+      rw (all-same (holds s₁ who) (holds s₂ who) (holds-same who s₁ s₂ (h .held who hw)) (seekNames sets p t)) refl
 
   remaining-alike : (op : Op) (m : Entry → Bool) (es₁ es₂ : List Entry)
       → All (λ e. own e ≡ false → m e ≡ false) es₁ → All (λ e. own e ≡ false → m e ≡ false) es₂
@@ -79,7 +82,7 @@ module _ (g : Group) where
       go false = h
 
   module _ (N : Name → Type 0) (s₁ s₂ : State) (h₁ : Closed g N s₁) (h₂ : Closed g N s₂) (h : SameView g s₁ s₂) where
-    served-alike : (c : Call ℕ) → byGroup g c ≡ true → firstThatApplies (table s₂ c) ≡ none → SameOutcome g (serve s₁ c) (serve s₂ c)
+    served-alike : (c : Call ℕ) → byGroup g c ≡ true → firstThatApplies (table sets s₂ c) ≡ none → SameOutcome g (serve sets s₁ c) (serve sets s₂ c)
     unfolding byGroup
     served-alike (put who r t fs) hw n =
         record {
@@ -95,16 +98,16 @@ module _ (g : Group) where
     served-alike (seek op who p t room) hw n = rw f (go (first m (s₂ .entries)))
       where
         m : Entry → Bool
-        m = matches op (storedPair p) t
+        m = matches sets op (storedPair p) t
 
-        a : All N (seekNames p t)
-        a = needed-inside g N s₂ (seek op who p t room) h₂ hw n
+        inside : Contains N (storedPair p)
+        inside = All-left N (pairNames sets (storedPair p)) (namesIn t) (needed-inside g N s₂ (seek op who p t room) h₂ hw n)
 
         a₁ : All (λ e. own e ≡ false → m e ≡ false) (s₁ .entries)
-        a₁ = others-miss g N op (storedPair p) t (a .0, a .1 .0) (s₁ .entries) (h₁ .apart)
+        a₁ = others-miss g N op (storedPair p) t inside (s₁ .entries) (h₁ .apart)
 
         a₂ : All (λ e. own e ≡ false → m e ≡ false) (s₂ .entries)
-        a₂ = others-miss g N op (storedPair p) t (a .0, a .1 .0) (s₂ .entries) (h₂ .apart)
+        a₂ = others-miss g N op (storedPair p) t inside (s₂ .entries) (h₂ .apart)
 
         f : first m (s₁ .entries) ≡ first m (s₂ .entries)
         f = first-keep own m (s₁ .entries) a₁ ∙ ap (first m) (h .entries) ∙ sym (first-keep own m (s₂ .entries) a₂)
@@ -127,38 +130,38 @@ module _ (g : Group) where
               };
             }
 
-    pub own-alike : (c : Call ℕ) → byGroup g c ≡ true → SameOutcome g (step s₁ c) (step s₂ c)
+    pub own-alike : (c : Call ℕ) → byGroup g c ≡ true → SameOutcome g (step sets s₁ c) (step sets s₂ c)
     unfolding step
-    own-alike c hw = rw (table-alike s₁ s₂ c hw h) (go (firstThatApplies (table s₂ c)) refl)
+    own-alike c hw = rw (table-alike s₁ s₂ c hw h) (go (firstThatApplies (table sets s₂ c)) refl)
       where
-        go : (o : Option ℕ) → firstThatApplies (table s₂ c) ≡ o → SameOutcome g (decided o (serve s₁ c) s₁) (decided o (serve s₂ c) s₂)
+        go : (o : Option ℕ) → firstThatApplies (table sets s₂ c) ≡ o → SameOutcome g (decided o (serve sets s₁ c) s₁) (decided o (serve sets s₂ c) s₂)
         go (some n) e = record { reply = refl; view = h }
         go none e = served-alike c hw e
 
   -- ---- a call from elsewhere, out of the grasp
 
   other-served : (N : Name → Type 0) (s : State) (c : Call ℕ) → Closed g N s → byGroup g c ≡ false → ¬ (CallInGrasp N c)
-      → SameView g (serve s c .state) s
+      → SameView g (serve sets s c .state) s
   unfolding byGroup
   other-served N s (put who r t fs) h hw q =
       record { held = λ p k. (refl, refl); entries = keep-append own (s .entries) (entryOf who r t fs ∷ []) ∙ rw hw (append-nil (keep own (s .entries))) }
   other-served N s (seek op who p t room) h hw q = go (first m (s .entries))
     where
       m : Entry → Bool
-      m = matches op (storedPair p) t
+      m = matches sets op (storedPair p) t
 
       kept-by : (b : Bool) (m : Entry → Bool) → keep own (without m (s .entries)) ≡ keep own (s .entries)
           → keep own (cond b (without m (s .entries)) (s .entries)) ≡ keep own (s .entries)
       kept-by true m e = e
       kept-by false m e = refl
 
-      kept : (op : Op) → ¬ (CallInGrasp N (seek op who p t room)) → keep own (remaining op (matches op (storedPair p) t) (s .entries)) ≡ keep own (s .entries)
+      kept : (op : Op) → ¬ (CallInGrasp N (seek op who p t room)) → keep own (remaining op (matches sets op (storedPair p) t) (s .entries)) ≡ keep own (s .entries)
       kept looking q = refl
       kept receiving q = refl
       kept taking q =
-          kept-by (removes taking) (matches taking (storedPair p) t)
-          (without-others own (matches taking (storedPair p) t) (s .entries)
-          (All-map (Apart g N) (λ e. own e ≡ true → matches taking (storedPair p) t e ≡ false)
+          kept-by (removes taking) (matches sets taking (storedPair p) t)
+          (without-others own (matches sets taking (storedPair p) t) (s .entries)
+          (All-map (Apart g N) (λ e. own e ≡ true → matches sets taking (storedPair p) t e ≡ false)
           (λ e a k. ours-miss N (storedPair p) t e (a .ours k) q) (s .entries) (h .apart)))
 
       u : State
@@ -173,7 +176,7 @@ module _ (g : Group) where
           }
 
   pub other-unseen : (N : Name → Type 0) (s : State) (c : Call ℕ) → Closed g N s → byGroup g c ≡ false
-      → (unrefused (step s c .answer) ≡ true → ¬ (CallInGrasp N c)) → SameView g (step s c .state) s
+      → (unrefused (step sets s c .answer) ≡ true → ¬ (CallInGrasp N c)) → SameView g (step sets s c .state) s
   other-unseen N s c h hw =
       step-cases (λ o. (unrefused (o .answer) ≡ true → ¬ (CallInGrasp N c)) → SameView g (o .state) s) s c
       (λ n q. view-refl s) (λ e q. other-served N s c h hw (q (serve-unrefused s c)))

@@ -11,6 +11,7 @@ use lib.ListN.{length, getD, take, drop, length-take, length-drop, take-append-d
 use lib.Seq.{drop-drop, take-take, drop-cons}
 use Rattle.rules.specs.Lists.{all, keep, All}
 use Rattle.rules.specs.Names.{bit, defaultPartition, defaultKey}
+use Rattle.rules.specs.Partitions.{sets}
 use Rattle.rules.specs.Fields.{putField}
 use Rattle.rules.specs.Matching.{Entry}
 use Rattle.rules.specs.State.{State, live, limitOf, wrote}
@@ -51,7 +52,7 @@ fields-back n fs h l z =
 pub row-back : (r : List ℕ) → 14 ≤ length r → rowOk r ≡ true → EntryOk (entryAt r) × (rowOf (entryAt r) ≡ take 14 r)
 unfolding rowOk
 row-back (a ∷ b ∷ c ∷ d ∷ e ∷ n ∷ fs) l h =
-    let heads : List Bool = leb b 63 ∷ leb c 62 ∷ leb d 63 ∷ leb e 62 ∷ leb 1 n ∷ leb n 8 ∷ [] in
+    let heads : List Bool = sets .inRange b ∷ leb c 62 ∷ sets .inRange d ∷ leb e 62 ∷ leb 1 n ∷ leb n 8 ∷ [] in
     let puts : Bool = all putField (take n fs) in
     let pads : Bool = all isZero (drop n (take 8 fs)) in
     let q = each (joined (leb a 7) heads) (puts ∷ pads ∷ []) h in
@@ -60,8 +61,8 @@ row-back (a ∷ b ∷ c ∷ d ∷ e ∷ n ∷ fs) l h =
     let k = fields-back n fs few (omega arith) (q .1 .1 .0) in (
       record {
         writerOk = leb-le (v .0);
-        readOk = record { partitionOk = leb-le (v .1 .0); keyOk = leb-le (v .1 .1 .0) };
-        takeOk = record { partitionOk = leb-le (v .1 .1 .1 .0); keyOk = leb-le (v .1 .1 .1 .1 .0) };
+        readOk = record { partitionsOk = v .1 .0; keyOk = leb-le (v .1 .1 .0) };
+        takeOk = record { partitionsOk = v .1 .1 .1 .0; keyOk = leb-le (v .1 .1 .1 .1 .0) };
         some = rw (k .0) (leb-le (v .1 .1 .1 .1 .1 .0));
         few = rw (k .0) few;
         fieldsOk = q .1 .0;

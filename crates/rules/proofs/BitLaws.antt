@@ -4,7 +4,7 @@ use mathlib.Core.Logic.{_⊎_, inl, inr}
 use mathlib.Core.Bool.{Bool, true, false}
 use mathlib.Core.List.{List, [], _∷_}
 use Prim.Native.Nat.{ℕ, zero, suc, _+_, _-_, _*_, _/_, _%_, _^_, _≤_, _<_, max}
-use native.Mathlib.Nat.{mod-lt, div-eq-of-lt, lt-of-lt-of-le, mul-mod-left, le-of-suc-le-suc, pow-suc, zero-lt-suc, one-mul}
+use native.Mathlib.Nat.{mod-lt, div-eq-of-lt, lt-of-lt-of-le, mul-mod-left, le-of-suc-le-suc, pow-suc, zero-lt-suc, one-mul, zero-div}
 use native.Mathlib.Nat.{max-le, max-eq-left, max-eq-right, zero-max}
 use native.Mathlib.Decide.{decLt}
 use native.Mathlib.Omega.{arith}
@@ -29,6 +29,9 @@ eqb-true m n e = eqb→eq m n (tOf e)
 pub eqb-same : (m : ℕ) → eqb m m ≡ true
 eqb-same m = ofT (eqb m m) (eqb-refl m)
 
+pub zero-bit : (c : ℕ) → bit 0 c ≡ false
+zero-bit c = rw (zero-div (2 ^ c)) refl
+
 max-lt2 : (a b : ℕ) → a < 2 → b < 2 → max a b < 2
 max-lt2 a b h k = suc-le-suc (max-le (le-of-suc-le-suc h) (le-of-suc-le-suc k))
 
@@ -41,7 +44,7 @@ or-bit : (w v d : ℕ) → bitOr w v / 2 ^ d % 2 ≡ max (w / 2 ^ d % 2) (v / 2 
 or-bit w v d = ap (λ (x : ℕ). x % 2) (or-shr w v d) ∙ or-digit (w / 2 ^ d) (v / 2 ^ d)
 
 -- 2 ^ c has no bit but c
-pow-bit : (c d : ℕ) → 2 ^ c / 2 ^ d % 2 ≡ 1 → c ≡ d
+pub pow-bit : (c d : ℕ) → 2 ^ c / 2 ^ d % 2 ≡ 1 → c ≡ d
 pow-bit c d e = go (decLt c d) (decLt d c)
   where
     go : Dec (c < d) → Dec (d < c) → c ≡ d
@@ -83,10 +86,17 @@ bit-kept w c d h =
     let l : 2 ^ c / 2 ^ d % 2 < 2 = mod-lt (2 ^ c / 2 ^ d) (zero-lt-suc 1) in
     rw (or-bit w (2 ^ c) d, e, max-eq-left {n = 1} (le-of-suc-le-suc l)) refl
 
+pow-one : (c : ℕ) → 2 ^ c / 2 ^ c ≡ 1
+pow-one c = ap (λ (x : ℕ). x / 2 ^ c) (sym (one-mul (2 ^ c))) ∙ shl-shr 1 c
+
+-- 2 ^ c has the bit c
+pub pow-self : (c : ℕ) → bit (2 ^ c) c ≡ true
+pow-self c = rw (pow-one c) refl
+
 pub bit-self : (w c : ℕ) → bit (withBit w c) c ≡ true
 bit-self w c =
     let l : w / 2 ^ c % 2 < 2 = mod-lt (w / 2 ^ c) (zero-lt-suc 1) in
-    let o : 2 ^ c / 2 ^ c ≡ 1 = ap (λ (x : ℕ). x / 2 ^ c) (sym (one-mul (2 ^ c))) ∙ shl-shr 1 c in
+    let o : 2 ^ c / 2 ^ c ≡ 1 = pow-one c in
     rw (or-bit w (2 ^ c) c, o, max-eq-right {m = 1} (le-of-suc-le-suc l)) refl
 
 pub bit-set-kept : (l : List ℕ) (who p c d : ℕ) → bit (getD l p 0) d ≡ true → bit (getD (set l who (withBit (getD l who 0) c)) p 0) d ≡ true

@@ -7,6 +7,7 @@ use mathlib.Core.List.{List, [], _∷_, _++_}
 use Prim.Native.Nat.{ℕ, _<_}
 use native.Mathlib.Omega.{arith}
 use Rattle.rules.specs.Lists.{All}
+use Rattle.rules.specs.Partitions.{sets}
 use Rattle.rules.specs.State.{State}
 use Rattle.rules.specs.Calls.{Call, put, seek, partyOf, refused, Table, firstThatApplies, table, serve, decided, step}
 use Rattle.rules.specs.Words.{decode, sound, asked, resultOf, Exit, exit, exitOf, call, refusals}
@@ -20,18 +21,18 @@ use Rattle.rules.proofs.WordRuns.{back}
 -- refused by a number and no word changed, or served
 abbrev pub callBy : Option ℕ → List ℕ → Call (List ℕ) → Exit
 callBy (some n) ws c = exit (refused n) ws (resultOf c)
-callBy none ws c = exitOf (serve (decode ws) (asked c)) (resultOf c)
+callBy none ws c = exitOf (serve sets (decode ws) (asked c)) (resultOf c)
 
 pub call-by : (ws : List ℕ) (c : Call (List ℕ)) → call ws c ≡ callBy (firstThatApplies (refusals ws c)) ws c
 unfolding call step
 call-by ws c = go (bool (sound ws))
   where
-    sound-by : sound ws ≡ true → (o : Option ℕ) → exitOf (decided o (serve (decode ws) (asked c)) (decode ws)) (resultOf c) ≡ callBy o ws c
+    sound-by : sound ws ≡ true → (o : Option ℕ) → exitOf (decided o (serve sets (decode ws) (asked c)) (decode ws)) (resultOf c) ≡ callBy o ws c
     sound-by h (some n) = rw (encode-decode ws h) refl
     sound-by h none = refl
 
     go : (sound ws ≡ true) ⊎ (sound ws ≡ false) → call ws c ≡ callBy (firstThatApplies (refusals ws c)) ws c
-    go (inl h) = rw h (sound-by h (firstThatApplies (table (decode ws) (asked c))))
+    go (inl h) = rw h (sound-by h (firstThatApplies (table sets (decode ws) (asked c))))
     go (inr h) = rw h refl
 
 -- a call that no test turns away
@@ -39,15 +40,15 @@ module _ (ws : List ℕ) (c : Call (List ℕ)) (e : Passes ws c) where
   pub passes-sound : sound ws ≡ true
   passes-sound = not-false (sound ws) (passed (refusals ws c) e .0)
 
-  pub passes-table : firstThatApplies (table (decode ws) (asked c)) ≡ none
+  pub passes-table : firstThatApplies (table sets (decode ws) (asked c)) ≡ none
   passes-table = rw passes-sound at e
 
-  pub passes-call : call ws c ≡ exitOf (serve (decode ws) (asked c)) (resultOf c)
+  pub passes-call : call ws c ≡ exitOf (serve sets (decode ws) (asked c)) (resultOf c)
   passes-call = call-by ws c ∙ rw e refl
 
-  pub passes-left : decode (call ws c .space) ≡ serve (decode ws) (asked c) .state
+  pub passes-left : decode (call ws c .space) ≡ serve sets (decode ws) (asked c) .state
   passes-left =
-      let s : State = serve (decode ws) (asked c) .state in
+      let s : State = serve sets (decode ws) (asked c) .state in
       rw passes-call (back s (wf-serve (decode ws) (asked c) (wf-decode ws passes-sound) passes-table))
 
 -- R2: a call that is not refused names a party from 0 to 7
@@ -64,7 +65,7 @@ unrefused-party ws c u = go (firstThatApplies (refusals ws c)) refl
 
 -- what holds of the state before a call, and of the one that it is served with, holds of the state that it leaves
 pub call-leaves : (P : State → Type 0) (ws : List ℕ) (c : Call (List ℕ)) → P (decode ws)
-    → (Passes ws c → P (serve (decode ws) (asked c) .state)) → P (decode (call ws c .space))
+    → (Passes ws c → P (serve sets (decode ws) (asked c) .state)) → P (decode (call ws c .space))
 call-leaves P ws c before served = go (firstThatApplies (refusals ws c)) refl
   where
     go : (o : Option ℕ) → firstThatApplies (refusals ws c) ≡ o → P (decode (call ws c .space))

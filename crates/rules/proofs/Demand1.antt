@@ -5,6 +5,7 @@ use mathlib.Core.Option.{Option, none, some}
 use mathlib.Core.List.{List, []}
 use Prim.Native.Nat.{ℕ}
 use Rattle.rules.specs.Lists.{first}
+use Rattle.rules.specs.Partitions.{sets}
 use Rattle.rules.specs.Matching.{storedPair, Entry, matches}
 use Rattle.rules.specs.State.{State}
 use Rattle.rules.specs.Calls.{Call, put, seek, Answer, done, found, nothing, refused}
@@ -30,12 +31,12 @@ changing (found n) = true
 changing nothing = false
 changing (refused n) = false
 
-serve-still : (s : State) (c : Call ℕ) → changing (serve s c .answer) ≡ false → (serve s c .state ≡ s) × (serve s c .fields ≡ [])
+serve-still : (s : State) (c : Call ℕ) → changing (serve sets s c .answer) ≡ false → (serve sets s c .state ≡ s) × (serve sets s c .fields ≡ [])
 serve-still s (put who r t fs) h = absurd (true≢false h)
-serve-still s (seek op who p t room) h = go (first (matches op (storedPair p) t) (s .entries)) h
+serve-still s (seek op who p t room) h = go (first (matches sets op (storedPair p) t) (s .entries)) h
   where
     outcome : Option Entry → Outcome
-    outcome o = finding op who o (remaining op (matches op (storedPair p) t) (s .entries)) s
+    outcome o = finding op who o (remaining op (matches sets op (storedPair p) t) (s .entries)) s
 
     go : (o : Option Entry) → changing (outcome o .answer) ≡ false → (outcome o .state ≡ s) × (outcome o .fields ≡ [])
     go none h = (refl, refl)
@@ -83,10 +84,10 @@ decides ts x a e h n =
 pub first-refusal-decides : FirstRefusalDecides
 first-refusal-decides ws c =
     let s : State = decode ws in
-    decides (refusals ws c) (call ws c .answer) (serve s (asked c) .answer)
+    decides (refusals ws c) (call ws c .answer) (serve sets s (asked c) .answer)
     (rw (call-by ws c) (go (firstThatApplies (refusals ws c)))) (serve-unrefused s (asked c))
   where
-    go : (o : Option ℕ) → callBy o ws c .answer ≡ by o (serve (decode ws) (asked c) .answer)
+    go : (o : Option ℕ) → callBy o ws c .answer ≡ by o (serve sets (decode ws) (asked c) .answer)
     go (some n) = refl
     go none = refl
 
@@ -106,7 +107,7 @@ sound-words s h = sound-encode s h (few-rows s h)
 
 pub sound-stays-sound : SoundStaysSound
 unfolding call
-sound-stays-sound ws c h = rw h (sound-words (step (decode ws) (asked c) .state) (wf-step (decode ws) (asked c) (wf-decode ws h)))
+sound-stays-sound ws c h = rw h (sound-words (step sets (decode ws) (asked c) .state) (wf-step (decode ws) (asked c) (wf-decode ws h)))
 
 pub opening-is-sound : OpeningIsSound
 unfolding opening

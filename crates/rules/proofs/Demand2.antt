@@ -13,8 +13,9 @@ use lib.IntN.{ℤ}
 use lib.ListN.{length, getD, drop, length-append}
 use Rattle.rules.specs.Lists.{keep, first, without, All}
 use Rattle.rules.specs.Names.{coStored}
+use Rattle.rules.specs.Partitions.{sets}
 use Rattle.rules.specs.Fields.{wildcard, field, isBound, fieldAgrees}
-use Rattle.rules.specs.Matching.{Pair, storedPair, Entry, Op, looking, receiving, taking, pairFor, fieldsAgree, partitionsAgree, keysAgree, matches}
+use Rattle.rules.specs.Matching.{Pair, storedPair, Entry, Op, looking, receiving, taking, pairFor, fieldsAgree, keysAgree, matches}
 use Rattle.rules.specs.State.{State, giveAll, withEntries, wrote, live, limitOf}
 use Rattle.rules.specs.Calls.{Call, put, seek, done, found, nothing, refused}
 use Rattle.rules.specs.Calls.{firstThatApplies, putTable, entryOf, remaining, gained, finding, serve, opened}
@@ -24,6 +25,7 @@ use Rattle.rules.specs.Claims.{Iff, Passes, Matches, MatchingRule, Match
 use Rattle.rules.specs.Claims.{FoundIsOldestMatch, TakeRemoves, ReceiveRemovesNothing, NoRoomExactlyAtSixteen, RowsSuffice, LiveAreThePutsNotTaken}
 use Rattle.rules.proofs.BitLaws.{eqb-true, eqb-same}
 use Rattle.rules.proofs.ListLaws.{bool, and-left, and-right, All-at, without-split, keep-append}
+use Rattle.rules.proofs.SetLaws.{sets-agree}
 use Rattle.rules.proofs.KeyLaws.{stored-le, co-stored}
 use Rattle.rules.proofs.Rows.{WF}
 use Rattle.rules.proofs.Kept.{live-amid, wf-serve, few-rows}
@@ -57,21 +59,21 @@ matching-rule op p t e = (there, back-again)
     q : Pair ℕ
     q = pairFor op e
 
-    there : matches op p t e ≡ true → Matches (λ t f. fieldAgrees t f ≡ true) op p t e
+    there : matches sets op p t e ≡ true → Matches (λ t f. fieldAgrees t f ≡ true) op p t e
     there h =
         let v =
         each (eqb (length t) (length (e .fields)))
-        (fieldsAgree t (e .fields) ∷ partitionsAgree (p .partition) (q .partition) ∷ keysAgree (p .key) (q .key) ∷ []) h in
+        (fieldsAgree t (e .fields) ∷ sets .agree (p .partitions) (q .partitions) ∷ keysAgree (p .key) (q .key) ∷ []) h in
         record {
           counts = eqb-true (length t) (length (e .fields)) (v .0);
           fields = agree-each t (e .fields) (v .1 .0);
-          partitions = eqb-true (q .partition) (p .partition) (v .1 .1 .0);
+          partitions = sets-agree (p .partitions) (q .partitions) .0 (v .1 .1 .0);
           keys = eqb-true (coStored (q .key)) (p .key) (v .1 .1 .1 .0);
         }
 
-    back-again : Matches (λ t f. fieldAgrees t f ≡ true) op p t e → matches op p t e ≡ true
+    back-again : Matches (λ t f. fieldAgrees t f ≡ true) op p t e → matches sets op p t e ≡ true
     back-again h =
-        rw (eqb-of (h .counts), each-agrees t (e .fields) (h .counts) (h .fields), eqb-of (h .partitions), eqb-of (h .keys)) refl
+        rw (eqb-of (h .counts), each-agrees t (e .fields) (h .counts) (h .fields), sets-agree (p .partitions) (q .partitions) .1 (h .partitions), eqb-of (h .keys)) refl
 
 pub matching-without-bounds : MatchingWithoutBounds
 matching-without-bounds op p t e plain =
@@ -130,7 +132,7 @@ none-exactly-when-nothing-matches ws op who p t result e =
     rw (passes-call ws (seek op who p t result) e) (λ h. first-missed m es (there (first m es) h), λ a. rw (missed-first m es a) refl)
   where
     m : Entry → Bool
-    m = matches op (storedPair p) t
+    m = matches sets op (storedPair p) t
 
     es : List Entry
     es = decode ws .entries
@@ -143,11 +145,11 @@ none-exactly-when-nothing-matches ws op who p t result e =
 pub record Found (ws : List ℕ) (op : Op) (who : ℕ) (p : Pair ℤ) (t result : List ℕ) (n : ℕ) : Type 0 where
   pub passes : Passes ws (seek op who p t result)
   pub entry : Entry
-  pub oldest : first (matches op (storedPair p) t) (decode ws .entries) ≡ some entry
+  pub oldest : first (matches sets op (storedPair p) t) (decode ws .entries) ≡ some entry
   pub count : n ≡ length (entry .fields)
   pub written : call ws (seek op who p t result) .result ≡ entry .fields ++ drop n result
   pub left : decode (call ws (seek op who p t result) .space)
-      ≡ giveAll who (gained op entry) (withEntries (remaining op (matches op (storedPair p) t) (decode ws .entries)) (decode ws))
+      ≡ giveAll who (gained op entry) (withEntries (remaining op (matches sets op (storedPair p) t) (decode ws .entries)) (decode ws))
 
 pub found-by : (ws : List ℕ) (op : Op) (who : ℕ) (p : Pair ℤ) (t result : List ℕ) (n : ℕ)
     → call ws (seek op who p t result) .answer ≡ found n → Found ws op who p t result n
@@ -157,7 +159,7 @@ found-by ws op who p t result n a = go (firstThatApplies (refusals ws c)) refl
     c = seek op who p t result
 
     m : Entry → Bool
-    m = matches op (storedPair p) t
+    m = matches sets op (storedPair p) t
 
     search : Passes ws c → (o : Option Entry) → first m (decode ws .entries) ≡ o → Found ws op who p t result n
     search e none q =
@@ -184,7 +186,7 @@ found-by ws op who p t result n a = go (firstThatApplies (refusals ws c)) refl
 pub found-is-oldest-match : FoundIsOldestMatch
 found-is-oldest-match ws op who p t result n a =
     let f : Found ws op who p t result n = found-by ws op who p t result n a in
-    let s : Split (matches op (storedPair p) t) (decode ws .entries) (f .entry) = first-split _ _ _ (f .oldest) in
+    let s : Split (matches sets op (storedPair p) t) (decode ws .entries) (f .entry) = first-split _ _ _ (f .oldest) in
     record {
       older = s .older;
       entry = f .entry;
@@ -221,11 +223,11 @@ take-removes ws who p t result n a m =
 
 -- an operation that removes nothing leaves the entries
 kept-entries : (op : Op) → ((m : Entry → Bool) (es : List Entry) → remaining op m es ≡ es)
-    → (s : State) (who : ℕ) (p : Pair ℤ) (t : List ℕ) (room : ℕ) → serve s (seek op who p t room) .state .entries ≡ s .entries
+    → (s : State) (who : ℕ) (p : Pair ℤ) (t : List ℕ) (room : ℕ) → serve sets s (seek op who p t room) .state .entries ≡ s .entries
 kept-entries op keeps s who p t room = go (first m (s .entries))
   where
     m : Entry → Bool
-    m = matches op (storedPair p) t
+    m = matches sets op (storedPair p) t
 
     go : (o : Option Entry) → finding op who o (remaining op m (s .entries)) s .state .entries ≡ s .entries
     go none = refl
@@ -275,7 +277,7 @@ rows-suffice ws h = (few-rows s w, more)
     more : (who : ℕ) (r t : Pair ℤ) (fs : List ℕ) → Passes ws (put who r t fs) → length (decode ws .entries) < 128
     more who r t fs e =
         let c : Call ℕ = put who r t fs in
-        let k : length (serve s c .state .entries) ≤ 128 = few-rows (serve s c .state) (wf-serve s c w (passes-table ws (put who r t fs) e)) in
+        let k : length (serve sets s c .state .entries) ≤ 128 = few-rows (serve sets s c .state) (wf-serve s c w (passes-table ws (put who r t fs) e)) in
         omega (arith, length-append (s .entries) (entryOf who r t fs ∷ []))
 
 -- ---- the live entries are those of the ledger's lines that are not taken
@@ -305,14 +307,14 @@ recorded-refused (seek receiving who p t result) n ls = refl
 recorded-refused (seek taking who p t result) n ls = refl
 
 serve-recorded : (s : State) (c : Call (List ℕ)) (ls : List Line) → s .entries ≡ entriesOf ls
-    → serve s (asked c) .state .entries ≡ entriesOf (recorded c (serve s (asked c) .answer) ls)
+    → serve sets s (asked c) .state .entries ≡ entriesOf (recorded c (serve sets s (asked c) .answer) ls)
 serve-recorded s (put who r t fs) ls e = rw e (sym (entries-snoc ls (entryOf who r t fs)))
 serve-recorded s (seek looking who p t result) ls e = kept-entries looking (λ m es. refl) s who p t (length result) ∙ e
 serve-recorded s (seek receiving who p t result) ls e = kept-entries receiving (λ m es. refl) s who p t (length result) ∙ e
 serve-recorded s (seek taking who p t result) ls e = go (first m (s .entries))
   where
     m : Entry → Bool
-    m = matches taking (storedPair p) t
+    m = matches sets taking (storedPair p) t
 
     go : (o : Option Entry) → finding taking who o (without m (s .entries)) s .state .entries
         ≡ entriesOf (recorded (seek taking who p t result) (finding taking who o (without m (s .entries)) s .answer) ls)

@@ -10,6 +10,7 @@ use lib.ListN.{length, getD, take, drop, length-take, length-drop}
 use lib.Seq.{take-at, getD-take, getD-drop}
 use Rattle.rules.specs.Lists.{In}
 use Rattle.rules.specs.Names.{Name, partition, key, coKey, stored, bit, withBit, defaultPartition, defaultKey, heldIn}
+use Rattle.rules.specs.Partitions.{sets}
 use Rattle.rules.specs.Fields.{namesIn}
 use Rattle.rules.specs.Matching.{storedPair, Entry, Op, looking, receiving, taking, matches}
 use Rattle.rules.specs.State.{State, holds, giveAll, withEntries}
@@ -98,7 +99,7 @@ found-gives ws op who p t result n no-look a =
     all-of taking e h = refl
 
     s : State
-    s = withEntries (remaining op (matches op (storedPair p) t) (decode ws .entries)) (decode ws)
+    s = withEntries (remaining op (matches sets op (storedPair p) t) (decode ws .entries)) (decode ws)
 
     names : foundNames ws c n ≡ ns
     names = rw (f .written, take-at (f .entry .fields) (drop n result) n (sym (f .count))) (sym (all-of op (f .entry) no-look))

@@ -9,20 +9,22 @@ use native.Mathlib.Omega.{arith}
 use lib.ListN.{length, take, drop, length-map, length-take, length-drop}
 use Rattle.rules.specs.Lists.{keep}
 use Rattle.rules.specs.Names.{Name}
+use Rattle.rules.specs.Partitions.{sets}
 use Rattle.rules.specs.State.{State, holds}
 use Rattle.rules.specs.Calls.{Call, step, opened}
+use Rattle.rules.specs.Runs.{stateRun, stateReplies}
 use Rattle.rules.specs.Group.{Group, member, byGroup, GroupName, SameHoldings}
 use Rattle.rules.proofs.ListLaws.{bool}
 use Rattle.rules.proofs.Gifts.{holds-same}
-use Rattle.rules.proofs.StateRuns.{stateRun, stateReplies, StateOutOfGrasp, StateIsolated}
+use Rattle.rules.proofs.StateRuns.{StateOutOfGrasp, StateIsolated}
 use Rattle.rules.proofs.Grasp.{Closed, closed-own, closed-other}
 use Rattle.rules.proofs.Alike.{SameView, SameOutcome, view-refl, view-trans, view-sym, own-alike, other-unseen}
 
 module _ (g : Group) (N : Name → Type 0) where
   -- a run from s, beside the run of the group's calls alone from s′
   record Purged (s s′ : State) (cs : List (Call ℕ)) : Type 0 where
-    pub told : stateReplies (byGroup g) s cs ≡ stateReplies (byGroup g) s′ (keep (byGroup g) cs)
-    pub view : SameView g (stateRun s cs) (stateRun s′ (keep (byGroup g) cs))
+    pub told : stateReplies sets (byGroup g) s cs ≡ stateReplies sets (byGroup g) s′ (keep (byGroup g) cs)
+    pub view : SameView g (stateRun sets s cs) (stateRun sets s′ (keep (byGroup g) cs))
 
   purge : (cs : List (Call ℕ)) (s s′ : State) → Closed g N s → Closed g N s′ → SameView g s s′ → StateOutOfGrasp g N s cs → Purged s s′ cs
   purge [] s s′ h h′ v q = record { told = refl; view = v }
@@ -32,22 +34,22 @@ module _ (g : Group) (N : Name → Type 0) where
           → ((t t′ : State) → Closed g N t → Closed g N t′ → SameView g t t′ → StateOutOfGrasp g N t cs → Purged t t′ cs)
           → Purged s s′ (c ∷ cs)
       go (inl e) rest =
-          let a : SameOutcome g (step s c) (step s′ c) = own-alike g N s s′ h h′ v c e in
-          let b : Purged (step s c .state) (step s′ c .state) cs =
-          rest (step s c .state) (step s′ c .state) (closed-own g N s c h e) (closed-own g N s′ c h′ e) (a .view) (q .1) in
+          let a : SameOutcome g (step sets s c) (step sets s′ c) = own-alike g N s s′ h h′ v c e in
+          let b : Purged (step sets s c .state) (step sets s′ c .state) cs =
+          rest (step sets s c .state) (step sets s′ c .state) (closed-own g N s c h e) (closed-own g N s′ c h′ e) (a .view) (q .1) in
           record { told = rw e (rw e (ap₂ (λ x y. x ∷ y) (a .reply) (b .told))); view = rw e (b .view) }
       go (inr e) rest =
-          let b : Purged (step s c .state) s′ cs =
-          rest (step s c .state) s′ (closed-other g N s c h e (q .0 e)) h′
-          (view-trans g (step s c .state) s s′ (other-unseen g N s c h e (q .0 e)) v) (q .1) in
+          let b : Purged (step sets s c .state) s′ cs =
+          rest (step sets s c .state) s′ (closed-other g N s c h e (q .0 e)) h′
+          (view-trans g (step sets s c .state) s s′ (other-unseen g N s c h e (q .0 e)) v) (q .1) in
           record { told = rw e (b .told); view = rw e (b .view) }
 
-  closed-run : (cs : List (Call ℕ)) (s : State) (i : ℕ) → Closed g N s → StateOutOfGrasp g N s cs → Closed g N (stateRun s (take i cs))
+  closed-run : (cs : List (Call ℕ)) (s : State) (i : ℕ) → Closed g N s → StateOutOfGrasp g N s cs → Closed g N (stateRun sets s (take i cs))
   closed-run cs s zero h q = h
   closed-run [] s (suc i) h q = h
-  closed-run (c ∷ cs) s (suc i) h q = closed-run cs (step s c .state) i (go (bool (byGroup g c))) (q .1)
+  closed-run (c ∷ cs) s (suc i) h q = closed-run cs (step sets s c .state) i (go (bool (byGroup g c))) (q .1)
     where
-      go : (byGroup g c ≡ true) ⊎ (byGroup g c ≡ false) → Closed g N (step s c .state)
+      go : (byGroup g c ≡ true) ⊎ (byGroup g c ≡ false) → Closed g N (step sets s c .state)
       go (inl e) = closed-own g N s c h e
       go (inr e) = closed-other g N s c h e (q .0 e)
 
@@ -112,6 +114,6 @@ state-isolation g roster₁ roster₂ l₁ l₂ h cs₁ cs₂ e q₁ q₂ =
     b : Purged g N₂ s₂ s₁ cs₂
     b = purge g N₂ cs₂ s₂ s₁ start₂ start₁₂ (view-sym g s₁ s₂ v) q₂
 
-    c : SameView g (stateRun s₁ cs₁) (stateRun s₂ cs₂)
-    c = view-trans g (stateRun s₁ cs₁) (stateRun s₁ (keep (byGroup g) cs₁)) (stateRun s₂ cs₂) (a .view)
-        (rw e (view-sym g (stateRun s₂ cs₂) (stateRun s₁ (keep (byGroup g) cs₂)) (b .view)))
+    c : SameView g (stateRun sets s₁ cs₁) (stateRun sets s₂ cs₂)
+    c = view-trans g (stateRun sets s₁ cs₁) (stateRun sets s₁ (keep (byGroup g) cs₁)) (stateRun sets s₂ cs₂) (a .view)
+        (rw e (view-sym g (stateRun sets s₂ cs₂) (stateRun sets s₁ (keep (byGroup g) cs₂)) (b .view)))

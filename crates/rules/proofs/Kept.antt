@@ -12,6 +12,7 @@ use lib.IntN.{ℤ}
 use lib.ListN.{length, getD, set, take, drop, length-append, length-set, length-map, length-take, length-drop}
 use Rattle.rules.specs.Lists.{all, keep, first, without, All}
 use Rattle.rules.specs.Names.{Name, partition, key, NameInRange, keyInRange, bit, withBit, defaultPartition, defaultKey}
+use Rattle.rules.specs.Partitions.{sets}
 use Rattle.rules.specs.Fields.{Field, message, name, wildcard, atLeast, atMost, bad, field, putField, nameIn, namesIn}
 use Rattle.rules.specs.Matching.{Pair, storedPair, Entry, Op, matches}
 use Rattle.rules.specs.State.{State, give, giveAll, withEntries, wrote, live, limitOf}
@@ -166,23 +167,23 @@ wf-with es s h r l =
 
 -- ---- the calls
 
-pair-ok : (p : Pair ℤ) → badPair p ≡ false → PairOk (storedPair p)
+pair-ok : (p : Pair ℤ) → badPair sets p ≡ false → PairOk (storedPair p)
 pair-ok p h =
     record {
-      partitionOk = ltb-false (or-left (ltb 63 (p .partition)) (not (keyInRange (p .key))) h);
-      keyOk = stored-le (p .key) (not-false (keyInRange (p .key)) (or-right (ltb 63 (p .partition)) (not (keyInRange (p .key))) h));
+      partitionsOk = not-false (sets .inRange (p .partitions)) (or-left (not (sets .inRange (p .partitions))) (not (keyInRange (p .key))) h);
+      keyOk = stored-le (p .key) (not-false (keyInRange (p .key)) (or-right (not (sets .inRange (p .partitions))) (not (keyInRange (p .key))) h));
     }
 
 -- the entry of a put that no test turns away fits a row, and its writer has room for it
-pub entry-ok : (s : State) (who : ℕ) (r t : Pair ℤ) (fs : List ℕ) → firstThatApplies (putTable s who r t fs) ≡ none
+pub entry-ok : (s : State) (who : ℕ) (r t : Pair ℤ) (fs : List ℕ) → firstThatApplies (putTable sets s who r t fs) ≡ none
     → EntryOk (entryOf who r t fs) × (live who (s .entries) < limitOf s who)
 unfolding putTable
 entry-ok s who r t fs h =
-    let q : All (λ t. t .0 ≡ false) (putTable s who r t fs) = passed (putTable s who r t fs) h in (
+    let q : All (λ t. t .0 ≡ false) (putTable sets s who r t fs) = passed (putTable sets s who r t fs) h in (
       record {
         writerOk = ltb-false (q .0);
-        readOk = pair-ok r (or-left (badPair r) (badPair t) (q .1 .1 .0));
-        takeOk = pair-ok t (or-right (badPair r) (badPair t) (q .1 .1 .0));
+        readOk = pair-ok r (or-left (badPair sets r) (badPair sets t) (q .1 .1 .0));
+        takeOk = pair-ok t (or-right (badPair sets r) (badPair sets t) (q .1 .1 .0));
         some = some-of (length fs) (or-left (eqb (length fs) 0) (ltb 8 (length fs)) (q .1 .0));
         few = ltb-false (or-right (eqb (length fs) 0) (ltb 8 (length fs)) (q .1 .0));
         fieldsOk = not-false (all putField fs) (q .1 .1 .1 .0);
@@ -209,13 +210,13 @@ wf-remaining op m s h =
     wf-with (remaining op m (s .entries)) s h (remaining-ok op m (s .entries) (h .rows)) (λ q. le-trans (remaining-live op m (s .entries) q) (h .limits q))
 
 -- the party of a call that no test turns away
-pub party-ok : (s : State) (c : Call ℕ) → firstThatApplies (table s c) ≡ none → partyOf c < 8
+pub party-ok : (s : State) (c : Call ℕ) → firstThatApplies (table sets s c) ≡ none → partyOf c < 8
 unfolding putTable seekTable
-party-ok s (put who r t fs) h = suc-le-suc (ltb-false (passed (putTable s who r t fs) h .0))
-party-ok s (seek op who p t room) h = suc-le-suc (ltb-false (passed (seekTable s who p t room) h .0))
+party-ok s (put who r t fs) h = suc-le-suc (ltb-false (passed (putTable sets s who r t fs) h .0))
+party-ok s (seek op who p t room) h = suc-le-suc (ltb-false (passed (seekTable sets s who p t room) h .0))
 
 -- a call that no test turns away
-pub wf-serve : (s : State) (c : Call ℕ) → WF s → firstThatApplies (table s c) ≡ none → WF (serve s c .state)
+pub wf-serve : (s : State) (c : Call ℕ) → WF s → firstThatApplies (table sets s c) ≡ none → WF (serve sets s c .state)
 wf-serve s (put who r t fs) h q =
     let o = entry-ok s who r t fs q in
     wf-with (s .entries ++ (e ∷ [])) s h (All-snoc EntryOk (s .entries) e (h .rows) (o .0)) (room (o .1))
@@ -232,7 +233,7 @@ wf-serve s (put who r t fs) h q =
 wf-serve s (seek op who p t room) h q = go (first m (s .entries))
   where
     m : Entry → Bool
-    m = matches op (storedPair p) t
+    m = matches sets op (storedPair p) t
 
     es : List Entry
     es = remaining op m (s .entries)
@@ -242,11 +243,11 @@ wf-serve s (seek op who p t room) h q = go (first m (s .entries))
     go (some x) =
         wf-giveAll who (gained op x) (withEntries es s) (All-gained NameInRange op x (namesIn-ok (x .fields))) (wf-remaining op m s h)
 
-pub wf-step : (s : State) (c : Call ℕ) → WF s → WF (step s c .state)
+pub wf-step : (s : State) (c : Call ℕ) → WF s → WF (step sets s c .state)
 unfolding step
-wf-step s c h = go (firstThatApplies (table s c)) refl
+wf-step s c h = go (firstThatApplies (table sets s c)) refl
   where
-    go : (o : Option ℕ) → firstThatApplies (table s c) ≡ o → WF (decided o (serve s c) s .state)
+    go : (o : Option ℕ) → firstThatApplies (table sets s c) ≡ o → WF (decided o (serve sets s c) s .state)
     go (some n) q = h
     go none q = wf-serve s c h q
 

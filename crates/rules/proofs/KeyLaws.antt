@@ -4,9 +4,10 @@ use mathlib.Core.Path.{_≡_, refl, sym, _∙_}
 use mathlib.Core.Bool.{true, false, not, and-true}
 use native.Mathlib.Omega.{arith}
 use borrow.Author.Tests.{leb-true, le-ltb, le-leb}
-use lib.Dec.{leb, ltb}
+use lib.Dec.{leb}
 use lib.IntN.{ℤ, pos, negsuc, _+ℤ_}
 use Rattle.rules.specs.Names.{keyInRange, stored, coKey, coStored}
+use Rattle.rules.specs.Partitions.{sets}
 use Rattle.rules.specs.Matching.{Pair}
 use Rattle.rules.specs.Calls.{badPair}
 use Rattle.rules.proofs.ListLaws.{or-right, not-false}
@@ -40,5 +41,5 @@ pub co-co : (k : ℤ) → keyInRange k ≡ true → coStored (stored (coKey k)) 
 co-co k h = let l = stored-le k h in let e = co-stored k h in omega arith
 
 -- a pair that is not turned away has its key in range
-pub pair-in-range : (p : Pair ℤ) → badPair p ≡ false → keyInRange (p .key) ≡ true
-pair-in-range p h = not-false (keyInRange (p .key)) (or-right (ltb 63 (p .partition)) (not (keyInRange (p .key))) h)
+pub pair-in-range : (p : Pair ℤ) → badPair sets p ≡ false → keyInRange (p .key) ≡ true
+pair-in-range p h = not-false (keyInRange (p .key)) (or-right (not (sets .inRange (p .partitions))) (not (keyInRange (p .key))) h)

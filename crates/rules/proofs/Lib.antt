@@ -1,5 +1,7 @@
 pub mod BitLaws
 pub mod ListLaws
+pub mod Members
+pub mod SetLaws
 pub mod KeyLaws
 pub mod FieldLaws
 pub mod Loops
@@ -19,4 +21,5 @@ pub mod Demand1
 pub mod Demand2
 pub mod Looks
 pub mod Holdings
+pub mod OneEach
 pub mod Cases

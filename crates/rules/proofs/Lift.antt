@@ -1,6 +1,6 @@
 -- Isolation on words: runs from an opening's words follow the runs on the states that they stand for.
 use mathlib.Core.Path.{_≡_, refl, ap}
-use mathlib.Core.Bool.{true, false}
+use mathlib.Core.Bool.{Bool, true, false}
 use mathlib.Core.Option.{Option, none, some}
 use mathlib.Core.List.{List, [], _∷_, _++_, map}
 use Prim.Native.Nat.{ℕ, zero, suc}
@@ -10,11 +10,12 @@ use lib.ListN.{length, take, drop}
 use lib.Seq.{take-append-seam}
 use Rattle.rules.specs.Lists.{keep, first}
 use Rattle.rules.specs.Names.{Name}
+use Rattle.rules.specs.Partitions.{sets}
 use Rattle.rules.specs.Matching.{storedPair, Entry, looking, receiving, taking, matches}
 use Rattle.rules.specs.State.{State}
 use Rattle.rules.specs.Calls.{Call, put, seek, partyOf, Outcome, remaining, finding, serve, step, opened}
 use Rattle.rules.specs.Words.{encode, decode, asked, resultOf, exitOf, call, opening}
-use Rattle.rules.specs.Runs.{run, reply, replies}
+use Rattle.rules.specs.Runs.{run, reply, replies, stateReply, stateReplies}
 use Rattle.rules.specs.Group.{Group, member, byGroup, CallInGrasp, unrefused, OutOfGrasp, NamesAt}
 use Rattle.rules.specs.Group.{SameHoldings, Isolated, Isolation, others, Run, startOf, Withheld, Secrecy}
 use Rattle.rules.proofs.ListLaws.{not-false}
@@ -22,18 +23,18 @@ use Rattle.rules.proofs.Rows.{WF}
 use Rattle.rules.proofs.Kept.{wf-step}
 use Rattle.rules.proofs.WordRuns.{back, call-encode, end-lift, Opened, open-done}
 use Rattle.rules.proofs.Decided.{unrefused-party}
-use Rattle.rules.proofs.StateRuns.{stateReply, stateReplies, StateOutOfGrasp, StateIsolated, step-cases}
+use Rattle.rules.proofs.StateRuns.{StateOutOfGrasp, StateIsolated, step-cases}
 use Rattle.rules.proofs.Isolation.{state-isolation}
 
-reply-step : (s : State) (c : Call ℕ) (result : List ℕ) → reply (exitOf (step s c) result) ≡ stateReply (step s c)
+reply-step : (s : State) (c : Call ℕ) (result : List ℕ) → reply (exitOf (step sets s c) result) ≡ stateReply (step sets s c)
 reply-step s c result = step-cases (λ o. reply (exitOf o result) ≡ stateReply o) s c (λ n. refl) (λ e. served c)
   where
-    served : (c : Call ℕ) → reply (exitOf (serve s c) result) ≡ stateReply (serve s c)
+    served : (c : Call ℕ) → reply (exitOf (serve sets s c) result) ≡ stateReply (serve sets s c)
     served (put who r t fs) = refl
-    served (seek op who p t room) = go (first (matches op (storedPair p) t) (s .entries))
+    served (seek op who p t room) = go (first (matches sets op (storedPair p) t) (s .entries))
       where
         found-in : Option Entry → Outcome
-        found-in o = finding op who o (remaining op (matches op (storedPair p) t) (s .entries)) s
+        found-in o = finding op who o (remaining op (matches sets op (storedPair p) t) (s .entries)) s
 
         go : (o : Option Entry) → reply (exitOf (found-in o) result) ≡ stateReply (found-in o)
         go none = refl
@@ -53,23 +54,24 @@ asked-grasp N (seek taking who p t result) h = h
 
 -- ---- runs
 
-replies-lift : (g : Group) (cs : List (Call (List ℕ))) (s : State) → WF s
-    → replies (byGroup g) (encode s) cs ≡ stateReplies (byGroup g) s (map asked cs)
-replies-lift g [] s h = refl
-replies-lift g (c ∷ cs) s h =
-    rw (
-      call-encode s c h,
-      reply-step s (asked c) (resultOf c),
-      replies-lift g cs (step s (asked c) .state) (wf-step s (asked c) h),
-      asked-group g c,
-    ) refl
+-- the replies that a test picks; p tests the calls as they are made, q as they are compared
+module _ (p : Call (List ℕ) → Bool) (q : Call ℕ → Bool) (e : (c : Call (List ℕ)) → q (asked c) ≡ p c) where
+  pub replies-lift : (cs : List (Call (List ℕ))) (s : State) → WF s → replies p (encode s) cs ≡ stateReplies sets q s (map asked cs)
+  replies-lift [] s h = refl
+  replies-lift (c ∷ cs) s h =
+      rw (
+        call-encode s c h,
+        reply-step s (asked c) (resultOf c),
+        replies-lift cs (step sets s (asked c) .state) (wf-step s (asked c) h),
+        e c,
+      ) refl
 
 grasp-lift : (g : Group) (N : Name → Type 0) (cs : List (Call (List ℕ))) (s : State) → WF s
     → OutOfGrasp g N (encode s) cs → StateOutOfGrasp g N s (map asked cs)
 grasp-lift g N [] s h q = tt
 grasp-lift g N (c ∷ cs) s h q =
     let q′ = rw (call-encode s c h) at q in
-    (λ e u k. q′ .0 (rw (asked-group g c) at e) u (asked-grasp N c k), grasp-lift g N cs (step s (asked c) .state) (wf-step s (asked c) h) (q′ .1))
+    (λ e u k. q′ .0 (rw (asked-group g c) at e) u (asked-grasp N c k), grasp-lift g N cs (step sets s (asked c) .state) (wf-step s (asked c) h) (q′ .1))
 
 take-map : (i : ℕ) (cs : List (Call (List ℕ))) → map asked (take i cs) ≡ take i (map asked cs)
 take-map zero cs = refl
@@ -82,7 +84,7 @@ isolated-lift : (g : Group) (s₁ s₂ : State) → WF s₁ → WF s₂ → (cs�
     → StateIsolated g s₁ s₂ (map asked cs₁) (map asked cs₂) → Isolated g (encode s₁) (encode s₂) cs₁ cs₂
 isolated-lift g s₁ s₂ h₁ h₂ cs₁ cs₂ a =
     record {
-      sameReplies = rw (replies-lift g cs₁ s₁ h₁, replies-lift g cs₂ s₂ h₂) (a .sameReplies);
+      sameReplies = rw (replies-lift (byGroup g) (byGroup g) (asked-group g) cs₁ s₁ h₁, replies-lift (byGroup g) (byGroup g) (asked-group g) cs₂ s₂ h₂) (a .sameReplies);
       sameEntries = rw (end-lift cs₁ s₁ h₁, end-lift cs₂ s₂ h₂) (a .sameEntries);
       sameHoldings = rw (end-lift cs₁ s₁ h₁, end-lift cs₂ s₂ h₂) (a .sameHoldings);
       inside₁ = λ i p n k m. rw (back s₁ h₁) (a .inside₁ i p n k (rw (end-lift (take i cs₁) s₁ h₁, take-map i cs₁) at m));

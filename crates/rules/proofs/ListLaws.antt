@@ -54,6 +54,10 @@ module _ {A : Type 0} where
   all-true f [] e = tt
   all-true f (x ∷ l) e = (and-left (f x) (all f l) e, all-true f l (and-right (f x) (all f l) e))
 
+  pub all-of : (f : A → Bool) (l : List A) → All (λ x. f x ≡ true) l → all f l ≡ true
+  all-of f [] h = refl
+  all-of f (x ∷ l) h = rw (h .0) (all-of f l (h .1))
+
   pub all-implied : (f h : A → Bool) → ((x : A) → f x ≡ true → h x ≡ true) → (l : List A) → all f l ≡ true → all h l ≡ true
   all-implied f h imp [] e = refl
   all-implied f h imp (x ∷ l) e = rw (imp x (and-left (f x) (all f l) e)) (all-implied f h imp l (and-right (f x) (all f l) e))
@@ -69,6 +73,14 @@ module _ {A : Type 0} where
   pub All-snoc : (P : A → Type 0) (l : List A) (x : A) → All P l → P x → All P (l ++ (x ∷ []))
   All-snoc P [] x h k = (k, tt)
   All-snoc P (y ∷ l) x h k = (h .0, All-snoc P l x (h .1) k)
+
+  pub All-left : (P : A → Type 0) (l r : List A) → All P (l ++ r) → All P l
+  All-left P [] r h = tt
+  All-left P (x ∷ l) r h = (h .0, All-left P l r (h .1))
+
+  pub All-right : (P : A → Type 0) (l r : List A) → All P (l ++ r) → All P r
+  All-right P [] r h = h
+  All-right P (x ∷ l) r h = All-right P l r (h .1)
 
   pub All-without : (P : A → Type 0) (m : A → Bool) (l : List A) → All P l → All P (without m l)
   All-without P m [] h = tt

@@ -8,19 +8,20 @@ use Prim.Native.Nat.{ℕ}
 use lib.IntN.{ℤ}
 use lib.ListN.{length}
 use Rattle.rules.specs.Lists.{first}
+use Rattle.rules.specs.Partitions.{sets}
 use Rattle.rules.specs.Matching.{Pair, storedPair, Entry, looking, receiving, taking, matches}
 use Rattle.rules.specs.State.{State}
 use Rattle.rules.specs.Calls.{Call, put, seek, firstThatApplies, finding, serve}
 use Rattle.rules.specs.Words.{decode, call, refusals}
 use Rattle.rules.specs.Runs.{Line, recorded}
-use Rattle.rules.specs.Group.{Group, byGroup, isLook, lessLooks, LooksUnfelt, LooksAreFree}
+use Rattle.rules.specs.Group.{byGroup, isLook, LooksUnfelt, LooksAreFree}
 use Rattle.rules.specs.Claims.{LookChangesNoWord, LookAnswersAsReceive}
 use Rattle.rules.proofs.ListLaws.{bool, or-left, or-right, not-false}
 use Rattle.rules.proofs.Back.{encode-decode}
 use Rattle.rules.proofs.Decided.{callBy, call-by, passes-sound}
 
-look-leaves : (s : State) (who : ℕ) (p : Pair ℤ) (t : List ℕ) (room : ℕ) → serve s (seek looking who p t room) .state ≡ s
-look-leaves s who p t room = go (first (matches looking (storedPair p) t) (s .entries))
+look-leaves : (s : State) (who : ℕ) (p : Pair ℤ) (t : List ℕ) (room : ℕ) → serve sets s (seek looking who p t room) .state ≡ s
+look-leaves s who p t room = go (first (matches sets looking (storedPair p) t) (s .entries))
   where
     go : (o : Option Entry) → finding looking who o (s .entries) s .state ≡ s
     go none = refl
@@ -56,7 +57,7 @@ look-answers-as-receive ws who p t result = rw (call-by ws look, call-by ws rece
 
     go : (o : Option ℕ) → (callBy o ws look .answer ≡ callBy o ws receive .answer) × (callBy o ws look .result ≡ callBy o ws receive .result)
     go (some n) = (refl, refl)
-    go none = let q = same (first (matches looking (storedPair p) t) es) in (q .0, rw (q .1) refl)
+    go none = let q = same (first (matches sets looking (storedPair p) t) es) in (q .0, rw (q .1) refl)
 
 -- ---- looks from elsewhere
 

@@ -2,7 +2,7 @@
 use Prim.Native.Nat.{ℕ, _+_, _≤_, _<_}
 use mathlib.Core.Path.{_≡_, refl, sym, ap, _∙_}
 use mathlib.Core.Bool.{Bool, true, false, not, _&&_, and-assoc}
-use mathlib.Core.List.{List, [], _∷_, _++_}
+use mathlib.Core.List.{List, [], _∷_, _++_, map}
 use native.Mathlib.Numerals.{add-one}
 use borrow.Author.Tests.{not-true, not-false}
 use lib.ListN.{length, getD, drop, drop-of-length-le}
@@ -33,6 +33,10 @@ module _ (p : ℕ → Bool) (l : List ℕ) (i : ℕ) (whole : Bool) (left : all 
 pub all-append : {A : Type 0} (p : A → Bool) (l r : List A) → all p (l ++ r) ≡ (all p l && all p r)
 all-append p [] r = refl
 all-append p (x ∷ l) r = ap (λ (b : Bool). p x && b) (all-append p l r) ∙ sym (and-assoc (p x) (all p l) (all p r))
+
+pub all-mapped : {A B : Type 0} (p : B → Bool) (f : A → B) (l : List A) → all p (map f l) ≡ all (λ x. p (f x)) l
+all-mapped p f [] = refl
+all-mapped p f (x ∷ l) = ap (λ (b : Bool). p (f x) && b) (all-mapped p f l)
 
 -- the names in fields, field by field
 pub all-names : (p : Name → Bool) (ws : List ℕ) → all p (namesIn ws) ≡ all (λ w. all p (nameIn (field w))) ws

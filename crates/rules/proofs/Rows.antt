@@ -9,6 +9,7 @@ use lib.ListN.{length, getD, take, drop, length-append, length-replicate}
 use lib.Seq.{drop-drop, take-append-seam, drop-append-seam, take-at, drop-at}
 use Rattle.rules.specs.Lists.{all, All}
 use Rattle.rules.specs.Names.{bit, defaultPartition, defaultKey}
+use Rattle.rules.specs.Partitions.{sets}
 use Rattle.rules.specs.Fields.{putField}
 use Rattle.rules.specs.Matching.{Pair, Entry}
 use Rattle.rules.specs.State.{State, live, limitOf}
@@ -17,7 +18,7 @@ use Rattle.rules.proofs.BitLaws.{ofT}
 
 -- a pair that a row can hold
 pub record PairOk (p : Pair ℕ) : Type 0 where
-  pub partitionOk : p .partition ≤ 63
+  pub partitionsOk : sets .inRange (p .partitions) ≡ true
   pub keyOk : p .key ≤ 62
 
 -- an entry that a row can hold
@@ -131,9 +132,9 @@ unfolding pad rowOk
 row-ok e h rest =
     rw (
       leb-true (h .writerOk),
-      leb-true (h .readOk .partitionOk),
+      h .readOk .partitionsOk,
       leb-true (h .readOk .keyOk),
-      leb-true (h .takeOk .partitionOk),
+      h .takeOk .partitionsOk,
       leb-true (h .takeOk .keyOk),
       leb-true (h .some),
       leb-true (h .few),

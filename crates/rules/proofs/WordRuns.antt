@@ -9,33 +9,33 @@ use lib.Dec.{eqb}
 use lib.ListN.{length, drop}
 use Rattle.rules.specs.Lists.{all, All}
 use Rattle.rules.specs.Names.{bit}
+use Rattle.rules.specs.Partitions.{sets}
 use Rattle.rules.specs.State.{State}
 use Rattle.rules.specs.Calls.{Call, done, firstThatApplies, step, opened}
 use Rattle.rules.specs.Words.{encode, decode, asked, resultOf, Exit, exitOf, call, openRefusals, openBy, opening}
-use Rattle.rules.specs.Runs.{run}
+use Rattle.rules.specs.Runs.{run, stateRun}
 use Rattle.rules.proofs.BitLaws.{eqb-true}
 use Rattle.rules.proofs.ListLaws.{or-left, or-right, not-false, passed}
 use Rattle.rules.proofs.Rows.{WF, decode-encode, sound-encode}
 use Rattle.rules.proofs.Kept.{wf-step, wf-opened, few-rows}
-use Rattle.rules.proofs.StateRuns.{stateRun}
 
 pub back : (s : State) → WF s → decode (encode s) ≡ s
 back s h = decode-encode s h (few-rows s h)
 
-pub call-encode : (s : State) (c : Call (List ℕ)) → WF s → call (encode s) c ≡ exitOf (step s (asked c)) (resultOf c)
+pub call-encode : (s : State) (c : Call (List ℕ)) → WF s → call (encode s) c ≡ exitOf (step sets s (asked c)) (resultOf c)
 unfolding call
 call-encode s c h = rw (sound-encode s h (few-rows s h), back s h) refl
 
-pub run-lift : (cs : List (Call (List ℕ))) (s : State) → WF s → run (encode s) cs ≡ encode (stateRun s (map asked cs))
+pub run-lift : (cs : List (Call (List ℕ))) (s : State) → WF s → run (encode s) cs ≡ encode (stateRun sets s (map asked cs))
 run-lift [] s h = refl
-run-lift (c ∷ cs) s h = rw (call-encode s c h) (run-lift cs (step s (asked c) .state) (wf-step s (asked c) h))
+run-lift (c ∷ cs) s h = rw (call-encode s c h) (run-lift cs (step sets s (asked c) .state) (wf-step s (asked c) h))
 
-pub wf-run : (cs : List (Call ℕ)) (s : State) → WF s → WF (stateRun s cs)
+pub wf-run : (cs : List (Call ℕ)) (s : State) → WF s → WF (stateRun sets s cs)
 wf-run [] s h = h
-wf-run (c ∷ cs) s h = wf-run cs (step s c .state) (wf-step s c h)
+wf-run (c ∷ cs) s h = wf-run cs (step sets s c .state) (wf-step s c h)
 
-pub end-lift : (cs : List (Call (List ℕ))) (s : State) → WF s → decode (run (encode s) cs) ≡ stateRun s (map asked cs)
-end-lift cs s h = ap decode (run-lift cs s h) ∙ back (stateRun s (map asked cs)) (wf-run (map asked cs) s h)
+pub end-lift : (cs : List (Call (List ℕ))) (s : State) → WF s → decode (run (encode s) cs) ≡ stateRun sets s (map asked cs)
+end-lift cs s h = ap decode (run-lift cs s h) ∙ back (stateRun sets s (map asked cs)) (wf-run (map asked cs) s h)
 
 -- ---- from an opening
 

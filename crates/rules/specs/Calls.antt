@@ -7,8 +7,9 @@ use lib.Dec.{leb, ltb, eqb}
 use lib.IntN.{ℤ}
 use lib.ListN.{length, take, drop}
 use Rattle.rules.specs.Lists.{all, first, without}
-use Rattle.rules.specs.Names.{Name, partition, key, keyInRange, withBit, defaultPartition, defaultKey}
+use Rattle.rules.specs.Names.{Name, key, keyInRange, withBit, defaultPartition, defaultKey}
 use Rattle.rules.specs.Fields.{putField, templateField, namesIn}
+use Rattle.rules.specs.Partitions.{Reading}
 use Rattle.rules.specs.Matching.{Pair, storedPair, Entry, Op, looking, receiving, taking, matches}
 use Rattle.rules.specs.State.{State, holds, giveAll, withEntries, live, limitOf}
 
@@ -44,46 +45,48 @@ firstThatApplies (t ∷ ts) = cond (t .0) (some (t .1)) (firstThatApplies ts)
 abbrev pub badCount : List ℕ → Bool
 badCount fs = eqb (length fs) 0 || ltb 8 (length fs)
 
--- R4
-abbrev pub badPair : Pair ℤ → Bool
-badPair p = ltb 63 (p .partition) || not (keyInRange (p .key))
+-- the tests that ask what the partition word of a pair stands for
+module _ (R : Reading) where
+  -- R4
+  abbrev pub badPair : Pair ℤ → Bool
+  badPair p = not (R .inRange (p .partitions)) || not (keyInRange (p .key))
 
--- R7: the names in a pair
-abbrev pub pairNames : Pair ℕ → List Name
-pairNames p = partition (p .partition) ∷ key (p .key) ∷ []
+  -- C6, R7: the names in a pair
+  abbrev pub pairNames : Pair ℕ → List Name
+  pairNames p = R .names (p .partitions) ++ (key (p .key) ∷ [])
 
--- C6, R7: the names that a call needs: those of its pairs, and those in its fields
-abbrev pub putNames : Pair ℤ → Pair ℤ → List ℕ → List Name
-putNames r t fs = pairNames (storedPair r) ++ (pairNames (storedPair t) ++ namesIn fs)
+  -- C6, R7: the names that a call needs: those of its pairs, and those in its fields
+  abbrev pub putNames : Pair ℤ → Pair ℤ → List ℕ → List Name
+  putNames r t fs = pairNames (storedPair r) ++ (pairNames (storedPair t) ++ namesIn fs)
 
-abbrev pub seekNames : Pair ℤ → List ℕ → List Name
-seekNames p t = pairNames (storedPair p) ++ namesIn t
+  abbrev pub seekNames : Pair ℤ → List ℕ → List Name
+  seekNames p t = pairNames (storedPair p) ++ namesIn t
 
--- R2 to R8, for a put
-unfoldable pub putTable : State → ℕ → Pair ℤ → Pair ℤ → List ℕ → Table
-putTable s who r t fs =
-    (ltb 7 who, 2)
-    ∷ (badCount fs, 3)
-    ∷ (badPair r || badPair t, 4)
-    ∷ (not (all putField fs), 5)
-    ∷ (not (all (holds s who) (putNames r t fs)), 7)
-    ∷ (leb (limitOf s who) (live who (s .entries)), 8)
-    ∷ []
+  -- R2 to R8, for a put
+  unfoldable pub putTable : State → ℕ → Pair ℤ → Pair ℤ → List ℕ → Table
+  putTable s who r t fs =
+      (ltb 7 who, 2)
+      ∷ (badCount fs, 3)
+      ∷ (badPair r || badPair t, 4)
+      ∷ (not (all putField fs), 5)
+      ∷ (not (all (holds s who) (putNames r t fs)), 7)
+      ∷ (leb (limitOf s who) (live who (s .entries)), 8)
+      ∷ []
 
--- R2 to R7, for a look, receive or take with that many result words
-unfoldable pub seekTable : State → ℕ → Pair ℤ → List ℕ → ℕ → Table
-seekTable s who p t room =
-    (ltb 7 who, 2)
-    ∷ (badCount t, 3)
-    ∷ (badPair p, 4)
-    ∷ (not (all templateField t), 5)
-    ∷ (ltb room (length t), 6)
-    ∷ (not (all (holds s who) (seekNames p t)), 7)
-    ∷ []
+  -- R2 to R7, for a look, receive or take with that many result words
+  unfoldable pub seekTable : State → ℕ → Pair ℤ → List ℕ → ℕ → Table
+  seekTable s who p t room =
+      (ltb 7 who, 2)
+      ∷ (badCount t, 3)
+      ∷ (badPair p, 4)
+      ∷ (not (all templateField t), 5)
+      ∷ (ltb room (length t), 6)
+      ∷ (not (all (holds s who) (seekNames p t)), 7)
+      ∷ []
 
-abbrev pub table : State → Call ℕ → Table
-table s (put who r t fs) = putTable s who r t fs
-table s (seek op who p t room) = seekTable s who p t room
+  abbrev pub table : State → Call ℕ → Table
+  table s (put who r t fs) = putTable s who r t fs
+  table s (seek op who p t room) = seekTable s who p t room
 
 -- ---- what a call answers and leaves
 
@@ -133,19 +136,20 @@ finding op who (some e) es s =
 abbrev pub sought : Op → ℕ → (Entry → Bool) → State → Outcome
 sought op who m s = finding op who (first m (s .entries)) (remaining op m (s .entries)) s
 
--- C2 to C4, C8: a call that no test turns away
-abbrev pub serve : State → Call ℕ → Outcome
-serve s (put who r t fs) = served (entryOf who r t fs) s
-serve s (seek op who p t room) = sought op who (matches op (storedPair p) t) s
-
 -- C7, R2 to R8: refused by a number and nothing changed, or served
 abbrev pub decided : Option ℕ → Outcome → State → Outcome
 decided (some n) o s = unchanged (refused n) s
 decided none o s = o
 
--- one call on a state
-unfoldable pub step : State → Call ℕ → Outcome
-step s c = decided (firstThatApplies (table s c)) (serve s c) s
+module _ (R : Reading) where
+  -- C2 to C4, C8: a call that no test turns away
+  abbrev pub serve : State → Call ℕ → Outcome
+  serve s (put who r t fs) = served (entryOf who r t fs) s
+  serve s (seek op who p t room) = sought op who (matches R op (storedPair p) t) s
+
+  -- one call on a state
+  unfoldable pub step : State → Call ℕ → Outcome
+  step s c = decided (firstThatApplies (table R s c)) (serve s c) s
 
 -- C1: the state that an opening leaves: the roster's holdings, partition 0 and key 0 for everyone, no entries
 unfoldable pub opened : List ℕ → State

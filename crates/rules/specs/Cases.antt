@@ -6,6 +6,7 @@ use Prim.Native.Nat.{ℕ, zero, suc, _*_, _^_}
 use lib.IntN.{ℤ, pos, negsuc}
 use Rattle.rules.specs.Lists.{All}
 use Rattle.rules.specs.Names.{Name, partition, key, coKey, stored}
+use Rattle.rules.specs.Partitions.{only}
 use Rattle.rules.specs.Fields.{name, field, nameWord}
 use Rattle.rules.specs.Matching.{Pair, pair, Op, receiving, taking}
 use Rattle.rules.specs.State.{holds}
@@ -51,16 +52,16 @@ Follows (held cs who n b) = holds (decode (run start cs)) who n ≡ b
 Follows (coKeys a b) = coKey a ≡ b
 Follows (worded n w) = (nameWord n ≡ w) × (field w ≡ name n)
 
--- the pair of partition 5 with key 4, and with key -4
+-- the pair of the set of partition 5 with key 4, and with key -4
 abbrev pub own : Pair ℤ
-own = pair 5 (pos 4)
+own = pair (only 5) (pos 4)
 
 abbrev pub other : Pair ℤ
-other = pair 5 (negsuc 3)
+other = pair (only 5) (negsuc 3)
 
 -- partition 0 with key 0
 abbrev pub defaults : Pair ℤ
-defaults = pair 0 (pos 0)
+defaults = pair (only 0) (pos 0)
 
 abbrev pub asks : Op → ℕ → Pair ℤ → List ℕ → Call (List ℕ)
 asks op who q t = seek op who q t (zeros 8)

@@ -1,4 +1,5 @@
--- The claims of demands 1 and 2, as statements about the definitions that the contracts cite. Demand 3 is `Isolation`, in Group.
+-- The claims of demands 1 and 2, and the comparison of sets with single partitions, as statements about the definitions that the
+-- contracts cite. Demand 3 is `Isolation`, in Group.
 use mathlib.Core.Path.{_≡_}
 use mathlib.Core.Logic.{_⊎_, _≢_}
 use mathlib.Core.Bool.{true, false}
@@ -8,13 +9,14 @@ use Prim.Native.Nat.{ℕ, suc, _+_, _*_, _≤_, _<_}
 use lib.IntN.{ℤ}
 use lib.ListN.{length, getD, take, drop}
 use Rattle.rules.specs.Lists.{all, keep, All, In}
-use Rattle.rules.specs.Names.{Name, partition, key, NameInRange, keyInRange, coKey, stored, coStored, defaultPartition, defaultKey, heldIn}
+use Rattle.rules.specs.Names.{Name, partition, key, NameInRange, keyInRange, coKey, stored, coStored, defaultPartition, defaultKey, bit, heldIn}
+use Rattle.rules.specs.Partitions.{only, sets, singles}
 use Rattle.rules.specs.Fields.{message, name, wildcard, field, nameWord, isBound, putField, namesIn, fieldAgrees}
-use Rattle.rules.specs.Matching.{Pair, storedPair, Entry, Op, looking, receiving, taking, pairFor, matches}
-use Rattle.rules.specs.State.{holds, live, wrote}
-use Rattle.rules.specs.Calls.{Call, put, seek, done, found, nothing, refused, Table, firstThatApplies, badCount, badPair, putNames}
-use Rattle.rules.specs.Words.{decode, sound, resultOf, call, refusals, badRoster, openRefusals, opening}
-use Rattle.rules.specs.Runs.{run, untaken, ledger}
+use Rattle.rules.specs.Matching.{Pair, pair, storedPair, Entry, Op, looking, receiving, taking, pairFor, matches}
+use Rattle.rules.specs.State.{State, holds, live, wrote}
+use Rattle.rules.specs.Calls.{Call, put, seek, done, found, nothing, refused, Table, firstThatApplies, badCount, badPair, putNames, opened}
+use Rattle.rules.specs.Words.{decode, sound, asked, resultOf, call, refusals, badRoster, openRefusals, opening}
+use Rattle.rules.specs.Runs.{run, replies, stateReplies, untaken, ledger}
 
 -- both ways
 abbrev pub Iff : Type 0 → Type 0 → Type 0
@@ -80,22 +82,29 @@ pub record BoundAgrees (v f : ℕ) : Type 0 where
 abbrev pub BoundsAgree : Type 0
 BoundsAgree = (v f : ℕ) → v < 4294967296 → BoundAgrees v f
 
+-- M3: a partition that is in both sets
+pub record Shared (t e : ℕ) : Type 0 where
+  pub common : ℕ
+  pub isPartition : common ≤ 63
+  pub inTemplate : bit t common ≡ true
+  pub inEntry : bit e common ≡ true
+
 -- M1 to M4, clause by clause; what it is for a template's field to agree with an entry's is left open
 pub record Matches (Agree : ℕ → ℕ → Type 0) (op : Op) (p : Pair ℕ) (t : List ℕ) (e : Entry) : Type 0 where
   pub counts : length t ≡ length (e .fields)
   pub fields : (i : ℕ) → i < length t → Agree (getD t i 0) (getD (e .fields) i 0)
-  pub partitions : pairFor op e .partition ≡ p .partition
+  pub partitions : Shared (p .partitions) (pairFor op e .partitions)
   pub keys : coStored (pairFor op e .key) ≡ p .key
 
 abbrev pub MatchingRule : Type 0
 MatchingRule =
-    (op : Op) (p : Pair ℕ) (t : List ℕ) (e : Entry) → Iff (matches op p t e ≡ true) (Matches (λ t f. fieldAgrees t f ≡ true) op p t e)
+    (op : Op) (p : Pair ℕ) (t : List ℕ) (e : Entry) → Iff (matches sets op p t e ≡ true) (Matches (λ t f. fieldAgrees t f ≡ true) op p t e)
 
 -- M2: where a template has no bounds, each of its fields has to be the wildcard or the entry's very word
 abbrev pub MatchingWithoutBounds : Type 0
 MatchingWithoutBounds =
     (op : Op) (p : Pair ℕ) (t : List ℕ) (e : Entry) → All (λ w. isBound (field w) ≡ false) t
-    → Iff (matches op p t e ≡ true) (Matches (λ t f. (field t ≡ wildcard) ⊎ (t ≡ f)) op p t e)
+    → Iff (matches sets op p t e ≡ true) (Matches (λ t f. (field t ≡ wildcard) ⊎ (t ≡ f)) op p t e)
 
 -- the stored co-key is the co-key, stored
 abbrev pub StoredCoKey : Type 0
@@ -105,7 +114,7 @@ abbrev pub NoneExactlyWhenNothingMatches : Type 0
 NoneExactlyWhenNothingMatches =
     (ws : List ℕ) (op : Op) (who : ℕ) (p : Pair ℤ) (t result : List ℕ) → Passes ws (seek op who p t result)
     → Iff (call ws (seek op who p t result) .answer ≡ nothing)
-    (All (λ e. matches op (storedPair p) t e ≡ false) (decode ws .entries))
+    (All (λ e. matches sets op (storedPair p) t e ≡ false) (decode ws .entries))
 
 -- what is found is the oldest match; its fields come first in the result, and the rest of it is kept
 pub record OldestMatch (ws : List ℕ) (op : Op) (p : Pair ℤ) (t result : List ℕ) (n : ℕ) (after : List ℕ) : Type 0 where
@@ -113,8 +122,8 @@ pub record OldestMatch (ws : List ℕ) (op : Op) (p : Pair ℤ) (t result : List
   pub entry : Entry
   pub newer : List Entry
   pub place : decode ws .entries ≡ older ++ (entry ∷ newer)
-  pub noOlder : All (λ e. matches op (storedPair p) t e ≡ false) older
-  pub match : matches op (storedPair p) t entry ≡ true
+  pub noOlder : All (λ e. matches sets op (storedPair p) t e ≡ false) older
+  pub match : matches sets op (storedPair p) t entry ≡ true
   pub count : n ≡ length (entry .fields)
   pub written : after ≡ entry .fields ++ drop n result
 
@@ -161,10 +170,10 @@ pub record PassesOneToSeven (ws : List ℕ) (who : ℕ) (r t : Pair ℤ) (fs : L
   pub one : sound ws ≡ true
   pub two : who ≤ 7
   pub three : badCount fs ≡ false
-  pub four-read : badPair r ≡ false
-  pub four-take : badPair t ≡ false
+  pub four-read : badPair sets r ≡ false
+  pub four-take : badPair sets t ≡ false
   pub five : all putField fs ≡ true
-  pub seven : all (holds (decode ws) who) (putNames r t fs) ≡ true
+  pub seven : all (holds (decode ws) who) (putNames sets r t fs) ≡ true
 
 abbrev pub NoRoomExactlyAtSixteen : Type 0
 NoRoomExactlyAtSixteen =
@@ -228,8 +237,37 @@ CarriedKeyAlone =
     → (holds (decode (call ws (seek op who p t result) .space)) who (key (stored k)) ≡ true)
     × (holds (decode (call ws (seek op who p t result) .space)) who (key (stored (coKey k))) ≡ false)
 
+-- C6, R7: the names of a set are held exactly if every partition in it is
+abbrev pub SetHeld : Type 0
+SetHeld =
+    (s : State) (who set : ℕ)
+    → Iff (all (holds s who) (sets .names set) ≡ true) ((c : ℕ) → c ≤ 63 → bit set c ≡ true → holds s who (partition c) ≡ true)
+
 -- C2: a put changes nobody's holdings, whatever it answers
 abbrev pub PutGivesNothing : Type 0
 PutGivesNothing =
     (ws : List ℕ) (who : ℕ) (r t : Pair ℤ) (fs : List ℕ) (p : ℕ) (n : Name)
     → holds (decode (call ws (put who r t fs) .space)) p n ≡ holds (decode ws) p n
+
+-- ---- sets of one partition
+
+-- E1: the pair with the set of its one partition
+abbrev pub onlyIn : {K : Type 0} → Pair K → Pair K
+onlyIn p = pair (only (p .partitions)) (p .key)
+
+-- the same call, with sets of one partition for the numbers of single ones
+abbrev pub withSets : {R : Type 0} → Call R → Call R
+withSets (put who r t fs) = put who (onlyIn r) (onlyIn t) fs
+withSets (seek op who p t result) = seek op who (onlyIn p) t result
+
+-- N2: the call's pairs name single partitions, 0 to 63
+abbrev pub NamesSingles : {R : Type 0} → Call R → Type 0
+NamesSingles (put who r t fs) = (r .partitions ≤ 63) × (t .partitions ≤ 63)
+NamesSingles (seek op who p t result) = p .partitions ≤ 63
+
+-- M7: from every opening, the answers and found fields of calls with sets of one partition, on words, are those that the same rules
+-- give of the calls with the numbers of single partitions, compared for equality
+abbrev pub OnePartitionEach : Type 0
+OnePartitionEach =
+    (old roster : List ℕ) → opening old roster .answer ≡ done → (cs : List (Call (List ℕ))) → All NamesSingles cs
+    → replies (λ c. true) (opening old roster .space) (map withSets cs) ≡ stateReplies singles (λ c. true) (opened roster) (map asked cs)

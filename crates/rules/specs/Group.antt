@@ -6,8 +6,9 @@ use mathlib.Core.List.{List, [], _∷_, _++_, map}
 use Prim.Native.Nat.{ℕ}
 use lib.Dec.{ltb}
 use lib.ListN.{getD, take}
-use Rattle.rules.specs.Lists.{keep}
-use Rattle.rules.specs.Names.{Name, partition, key, coStored}
+use Rattle.rules.specs.Lists.{keep, Some}
+use Rattle.rules.specs.Names.{Name, key, coStored}
+use Rattle.rules.specs.Partitions.{sets}
 use Rattle.rules.specs.Matching.{Pair, storedPair, Entry, looking, receiving, taking}
 use Rattle.rules.specs.State.{State, holds}
 use Rattle.rules.specs.Calls.{Call, put, seek, partyOf, Answer, done, found, nothing, refused, entryOf}
@@ -31,9 +32,9 @@ pub record GroupName (g : Group) (s : State) (n : Name) : Type 0 where
   pub isMember : member g who ≡ true
   pub held : holds s who n ≡ true
 
--- G5: the names contain the pair's partition and the co-key of its key
+-- G5: the names contain a partition of the pair's set, and the co-key of its key
 abbrev pub Reaches : (Name → Type 0) → Pair ℕ → Type 0
-Reaches N p = N (partition (p .partition)) × N (key (coStored (p .key)))
+Reaches N p = Some N (sets .names (p .partitions)) × N (key (coStored (p .key)))
 
 -- G5: an entry in the group's "grasp": the names, put together, reach one of its pairs
 abbrev pub EntryInGrasp : (Name → Type 0) → Entry → Type 0

@@ -1,5 +1,6 @@
 pub mod Lists
 pub mod Names
+pub mod Partitions
 pub mod Fields
 pub mod Matching
 pub mod State

@@ -6,18 +6,20 @@ use lib.Dec.{eqb}
 use lib.IntN.{ℤ}
 use lib.ListN.{length}
 use Rattle.rules.specs.Names.{coStored, stored}
+use Rattle.rules.specs.Partitions.{Reading}
 use Rattle.rules.specs.Fields.{fieldAgrees}
 
--- E1, E2: a pair; its key is a number in a call, and stored in an entry
+-- E1, E2: a pair: what it names of partitions is a word, which a `Reading` takes for a set of them; its key is a number in a call,
+-- and stored in an entry
 pub record Pair (K : Type 0) : Type 0 where
-  pub partition : ℕ
+  pub partitions : ℕ
   pub key : K
 
 abbrev pub pair : {K : Type 0} → ℕ → K → Pair K
-pair p k = record { partition = p; key = k }
+pair p k = record { partitions = p; key = k }
 
 abbrev pub storedPair : Pair ℤ → Pair ℕ
-storedPair p = pair (p .partition) (stored (p .key))
+storedPair p = pair (p .partitions) (stored (p .key))
 
 -- E1: an entry; the fields are 1 to 8 words
 pub record Entry : Type 0 where
@@ -42,18 +44,15 @@ fieldsAgree [] fs = true
 fieldsAgree (t ∷ ts) [] = false
 fieldsAgree (t ∷ ts) (f ∷ fs) = fieldAgrees t f && fieldsAgree ts fs
 
--- M3, M6: the partitions agree
-abbrev pub partitionsAgree : ℕ → ℕ → Bool
-partitionsAgree t e = eqb e t
-
 -- M4, M6: the co-key of the entry's key is the template's key
 abbrev pub keysAgree : ℕ → ℕ → Bool
 keysAgree t e = eqb (coStored e) t
 
--- M1 to M4: the entry matches the template, a pair and its fields, for the operation
-unfoldable pub matches : Op → Pair ℕ → List ℕ → Entry → Bool
-matches op p t e =
-    eqb (length t) (length (e .fields))
-    && (fieldsAgree t (e .fields)
-    && (partitionsAgree (p .partition) (pairFor op e .partition)
-    && keysAgree (p .key) (pairFor op e .key)))
+module _ (R : Reading) where
+  -- M1 to M4: the entry matches the template, a pair and its fields, for the operation
+  unfoldable pub matches : Op → Pair ℕ → List ℕ → Entry → Bool
+  matches op p t e =
+      eqb (length t) (length (e .fields))
+      && (fieldsAgree t (e .fields)
+      && (R .agree (p .partitions) (pairFor op e .partitions)
+      && keysAgree (p .key) (pairFor op e .key)))

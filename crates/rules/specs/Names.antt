@@ -7,6 +7,7 @@ use lib.Dec.{eqb}
 use lib.IntN.{ℤ, pos, negsuc, natAbs, negℤ, _+ℤ_}
 use lib.ListN.{getD, set}
 use lib.Signed.{leZ}
+use Rattle.rules.specs.Lists.{keep, from}
 
 -- N3: a key is a number from -31 to 31
 abbrev pub keyInRange : ℤ → Bool
@@ -45,6 +46,10 @@ defaultKey = 31
 -- L2: bit c of a word
 abbrev pub bit : ℕ → ℕ → Bool
 bit w c = eqb (w / 2 ^ c % 2) 1
+
+-- L2, N6: the bits that are set in a word, smallest first
+unfoldable pub bitsIn : ℕ → List ℕ
+bitsIn w = keep (bit w) (from 0 64)
 
 -- L2: a word with bit c set
 abbrev pub withBit : ℕ → ℕ → ℕ

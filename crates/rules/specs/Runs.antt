@@ -3,8 +3,10 @@ use mathlib.Core.Bool.{Bool, true, false, not, _&&_, cond}
 use mathlib.Core.List.{List, [], _∷_, _++_}
 use Prim.Native.Nat.{ℕ}
 use lib.ListN.{take}
+use Rattle.rules.specs.Partitions.{Reading, sets}
 use Rattle.rules.specs.Matching.{storedPair, Entry, looking, receiving, taking, matches}
-use Rattle.rules.specs.Calls.{Call, put, seek, Answer, done, found, nothing, refused, entryOf}
+use Rattle.rules.specs.State.{State}
+use Rattle.rules.specs.Calls.{Call, put, seek, Answer, done, found, nothing, refused, Outcome, entryOf, step}
 use Rattle.rules.specs.Words.{Exit, call}
 
 -- G1: the words that a list of calls leaves
@@ -31,6 +33,21 @@ abbrev pub replies : (Call (List ℕ) → Bool) → List ℕ → List (Call (Lis
 replies p ws [] = []
 replies p ws (c ∷ cs) = cond (p c) (reply (call ws c) ∷ replies p (call ws c .space) cs) (replies p (call ws c .space) cs)
 
+-- G8: the same on states
+abbrev pub stateReply : Outcome → Reply
+stateReply o = (o .answer, o .fields)
+
+module _ (R : Reading) where
+  -- G1: the state that a list of calls leaves
+  abbrev pub stateRun : State → List (Call ℕ) → State
+  stateRun s [] = s
+  stateRun s (c ∷ cs) = stateRun (step R s c .state) cs
+
+  abbrev pub stateReplies : (Call ℕ → Bool) → State → List (Call ℕ) → List Reply
+  stateReplies p s [] = []
+  stateReplies p s (c ∷ cs) =
+      cond (p c) (stateReply (step R s c) ∷ stateReplies p (step R s c .state) cs) (stateReplies p (step R s c .state) cs)
+
 -- ---- A2: the ledger of a run: each put answered "done", in order, and whether a take has found it
 
 pub record Line : Type 0 where
@@ -54,7 +71,7 @@ recorded (put who r t fs) (refused n) ls = ls
 recorded (seek looking who p t result) a ls = ls
 recorded (seek receiving who p t result) a ls = ls
 recorded (seek taking who p t result) done ls = ls
-recorded (seek taking who p t result) (found n) ls = strike (matches taking (storedPair p) t) ls
+recorded (seek taking who p t result) (found n) ls = strike (matches sets taking (storedPair p) t) ls
 recorded (seek taking who p t result) nothing ls = ls
 recorded (seek taking who p t result) (refused n) ls = ls
 

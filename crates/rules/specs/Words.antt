@@ -7,6 +7,7 @@ use lib.Dec.{leb, eqb}
 use lib.ListN.{length, getD, take, drop, replicate}
 use Rattle.rules.specs.Lists.{all}
 use Rattle.rules.specs.Names.{bit, defaultPartition, defaultKey}
+use Rattle.rules.specs.Partitions.{sets}
 use Rattle.rules.specs.Fields.{putField}
 use Rattle.rules.specs.Matching.{pair, Entry}
 use Rattle.rules.specs.State.{State, live, limitOf}
@@ -27,7 +28,7 @@ rowsEnd = rowStart 128
 -- L4, F6: the 14 words of an entry's row; unused field words are 0
 abbrev pub rowOf : Entry → List ℕ
 rowOf e =
-    e .writer ∷ e .readPair .partition ∷ e .readPair .key ∷ e .takePair .partition ∷ e .takePair .key ∷ length (e .fields)
+    e .writer ∷ e .readPair .partitions ∷ e .readPair .key ∷ e .takePair .partitions ∷ e .takePair .key ∷ length (e .fields)
     ∷ (e .fields ++ zeros (8 - length (e .fields)))
 
 abbrev pub rowsOf : List Entry → List ℕ
@@ -68,9 +69,9 @@ isZero w = eqb w 0
 abbrev pub headOk : List ℕ → Bool
 headOk r =
     leb (getD r 0 0) 7
-    && (leb (getD r 1 0) 63
+    && (sets .inRange (getD r 1 0)
     && (leb (getD r 2 0) 62
-    && (leb (getD r 3 0) 63
+    && (sets .inRange (getD r 3 0)
     && (leb (getD r 4 0) 62
     && (leb 1 (getD r 5 0)
     && leb (getD r 5 0) 8)))))
@@ -137,11 +138,11 @@ exitOf o result = exit (o .answer) (encode (o .state)) (o .fields ++ drop (lengt
 
 -- R1: a space that is not sound is refused first; on a sound one the call is the state's
 unfoldable pub call : List ℕ → Call (List ℕ) → Exit
-call ws c = cond (sound ws) (exitOf (step (decode ws) (asked c)) (resultOf c)) (exit (refused 1) ws (resultOf c))
+call ws c = cond (sound ws) (exitOf (step sets (decode ws) (asked c)) (resultOf c)) (exit (refused 1) ws (resultOf c))
 
 -- R1 to R8: the whole table of a call on words
 abbrev pub refusals : List ℕ → Call (List ℕ) → Table
-refusals ws c = (not (sound ws), 1) ∷ table (decode ws) (asked c)
+refusals ws c = (not (sound ws), 1) ∷ table sets (decode ws) (asked c)
 
 -- R9: the roster is not 16 words, or bit 63 of a key word is set
 abbrev pub badRoster : List ℕ → Bool

@@ -12,6 +12,7 @@ use lib.Dec.{eqb}
 use lib.ListN.{length, getD, take, drop, length-take, length-drop, drop-of-length-le}
 use lib.Seq.{getD-take, getD-drop, drop-drop, drop-cons}
 use Rattle.rules.specs.Names.{coStored}
+use Rattle.rules.specs.Partitions.{setsAgree, sets}
 use Rattle.rules.specs.Fields.{fieldAgrees}
 use Rattle.rules.specs.Matching.{pair, Entry, pairFor, fieldsAgree, matches}
 use Rattle.rules.specs.Words.{rowStart, entryAt, entriesAt, decode, rowOk, rowsOk, sound}
@@ -36,6 +37,12 @@ head-word ws at k l = rw add-sub-cancel-left (getD-take 6 (drop at ws) k 0 l ∙
 
 pub head-len : (ws : List ℕ) (at : ℕ) → at + 6 ≤ length ws → length (headOn ws at) ≡ 6
 head-len ws at l = rw add-sub-cancel-left (simp (length-take, length-drop) (omega arith))
+
+-- M1, M3, M4: the test of these words, where b says whether the sets agree
+pub pair-by : (head : List ℕ) (o p k n : ℕ) (b : Bool) → b ≡ setsAgree p (getD head o 0)
+    → ((eqb (getD head 5 0) n && b) && eqb (getD head (o + 1) 0) k) ≡ pairAt head o p k n
+unfolding pairAt
+pair-by head o p k n b e = rw e refl
 
 -- row r is live and begins at that word
 pub record LiveRow (ws : List ℕ) (r at : ℕ) : Type 0 where
@@ -95,7 +102,7 @@ offset-le Taking n e = omega arith
 
 module _ {ws : List ℕ} {r at : ℕ} (row : LiveRow ws r at) where
   -- L4, S6: the pair that the operation goes by, and its words
-  pair-on : (op : Op) → (pairFor (meant op) (entryOn ws at) .partition ≡ getD ws (at + offset op) 0)
+  pair-on : (op : Op) → (pairFor (meant op) (entryOn ws at) .partitions ≡ getD ws (at + offset op) 0)
       × (pairFor (meant op) (entryOn ws at) .key ≡ getD ws (at + (offset op + 1)) 0)
       × PairOk (pairFor (meant op) (entryOn ws at))
   pair-on Looking = (getD-drop at ws 1 0, getD-drop at ws 2 0, row .ok .readOk)
@@ -109,17 +116,16 @@ module _ {ws : List ℕ} {r at : ℕ} (row : LiveRow ws r at) where
       let l = offset-le op o e in
       record {
         count = rw (head-word ws at 5 (omega arith)) (omega (arith, row .ok .few, row .count));
-        partition = rw (head-word ws at o (omega arith), e) (omega (arith, q .2 .partitionOk, q .0));
         key = rw (head-word ws at (o + 1) (omega arith), e) (omega (arith, q .2 .keyOk, q .1));
       }
 
   -- M1, M3, M4: the test of these words, on the words of the space
   pair-words : (o p k n : ℕ) → o ≤ 3
-      → pairAt (headOn ws at) o p k n ≡ (eqb (getD ws (at + 5) 0) n && (eqb (getD ws (at + o) 0) p && eqb (getD ws (at + (o + 1)) 0) k))
+      → pairAt (headOn ws at) o p k n ≡ (eqb (getD ws (at + 5) 0) n && (setsAgree p (getD ws (at + o) 0) && eqb (getD ws (at + (o + 1)) 0) k))
   unfolding pairAt
   pair-words o p k n l =
       rw (head-word ws at 5 (omega arith), head-word ws at o (omega arith), head-word ws at (o + 1) (omega arith))
-      (and-assoc (eqb (getD ws (at + 5) 0) n) (eqb (getD ws (at + o) 0) p) (eqb (getD ws (at + (o + 1)) 0) k))
+      (and-assoc (eqb (getD ws (at + 5) 0) n) (setsAgree p (getD ws (at + o) 0)) (eqb (getD ws (at + (o + 1)) 0) k))
 
   -- M1: a row that passes the first test has as many fields
   pub count-on : (o p k n : ℕ) (x : Bool) → o ≤ 3 → x ≡ pairAt (headOn ws at) o p k n → x ≡ true → length (entryOn ws at .fields) ≡ n
@@ -128,7 +134,7 @@ module _ {ws : List ℕ} {r at : ℕ} (row : LiveRow ws r at) where
 
   -- M1 to M4, as the search goes about them: the pair, then the fields
   pub match-on : (op : Op) (o p k : ℕ) (t : List ℕ) (x b d : Bool) → o ≡ offset op → k ≤ 62 → x ≡ pairAt (headOn ws at) o p k (length t) → x ≡ b
-      → fieldsAgree t (entryOn ws at .fields) ≡ d → matches (meant op) (pair p (coStored k)) t (entryOn ws at) ≡ (b && d)
+      → fieldsAgree t (entryOn ws at .fields) ≡ d → matches sets (meant op) (pair p (coStored k)) t (entryOn ws at) ≡ (b && d)
   unfolding matches
   match-on op o p k t x b d e l h y g =
       let q = pair-on op in

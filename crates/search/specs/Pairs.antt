@@ -4,6 +4,7 @@ use mathlib.Core.List.{List}
 use Prim.Native.Nat.{ℕ, _+_, _≤_}
 use lib.Dec.{eqb}
 use lib.ListN.{getD}
+use Rattle.rules.specs.Partitions.{setsAgree}
 use Rattle.search.specs.declared.Op.{Op}
 use Rattle.search.specs.declared.Op.the-variants.{Looking, Receiving, Taking}
 
@@ -13,12 +14,11 @@ offset Looking = 1
 offset Receiving = 1
 offset Taking = 3
 
--- S6: of the words before a row's fields, the count, the partition and the key at that offset are in range
+-- S6: of the words before a row's fields, the count and the key of the pair at that offset are in range
 pub record SmallAt (head : List ℕ) (pair : ℕ) : Type 0 where
   pub count : getD head 5 0 ≤ 8
-  pub partition : getD head pair 0 ≤ 63
   pub key : getD head (pair + 1) 0 ≤ 62
 
--- M1, M3, M4: those words have the count, and the partition and the key at that offset
+-- M1, M3, M4: those words have the count, and at that offset a set that agrees and the key
 unfoldable pub pairAt : List ℕ → ℕ → ℕ → ℕ → ℕ → Bool
-pairAt head pair partition key count = (eqb (getD head 5 0) count && eqb (getD head pair 0) partition) && eqb (getD head (pair + 1) 0) key
+pairAt head pair set key count = (eqb (getD head 5 0) count && setsAgree set (getD head pair 0)) && eqb (getD head (pair + 1) 0) key

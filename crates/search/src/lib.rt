@@ -6,6 +6,7 @@ ghost use Prim.Native.Nat.{_≤_};
 ghost use lib.ListN.{length, getD};
 ghost use Rattle.rules.specs.Names.{coStored};
 ghost use Rattle.rules.specs.Lists.{all};
+ghost use Rattle.rules.specs.Partitions.{sets};
 ghost use Rattle.rules.specs.Fields.{fieldAgrees};
 ghost use Rattle.rules.specs.Matching.{pair, matches};
 ghost use Rattle.rules.specs.Words.{decode, sound};
@@ -31,13 +32,13 @@ pub enum Found {
 pub fn search(
     space: &[u64],
     op: Op,
-    partition: u32,
+    partitions: u64,
     cokey: u32,
     template: &[u64],
     bounded: bool,
 ) -> Found
     requires { ⌜ (sound (now space) ≡ true) × (cokey ≤ 62) × (length (now template) ≤ 8) × (not bounded ≡ true → all plain (now template) ≡ true) ⌝ }
-    ensures { λ r. ⌜ r ≡ place (matches (meant op) (pair partition (coStored cokey)) (now (template .entry))) (decode (now (space .entry)) .entries) ⌝ }
+    ensures { λ r. ⌜ r ≡ place (matches sets (meant op) (pair partitions (coStored cokey)) (now (template .entry))) (decode (now (space .entry)) .entries) ⌝ }
 {
     let pair = pair_of(op);
     let live = live_rows(space);
@@ -46,7 +47,7 @@ pub fn search(
     'rows: while row < live {
         let at = starts::start(row) as usize;
         let end = at + 6;
-        if pair_agrees(&space[at..end], pair, partition, cokey, count) {
+        if pair_agrees(&space[at..end], pair, partitions, cokey, count) {
             let mut i = 0;
             'fields: loop {
                 if i == count {
@@ -104,12 +105,12 @@ fn pair_of(op: Op) -> usize
 }
 
 // M1, M3, M4: the row has the count, and the pair. Six words of it are lent, those before the fields.
-fn pair_agrees(head: &[u64], pair: usize, partition: u32, cokey: u32, count: u32) -> bool
+fn pair_agrees(head: &[u64], pair: usize, partitions: u64, cokey: u32, count: u32) -> bool
     requires { ⌜ (length (now head) ≡ 6) × (pair ≤ 3) × SmallAt (now head) pair ⌝ }
-    ensures { λ r. ⌜ r ≡ pairAt (now (head .entry)) pair partition cokey count ⌝ }
+    ensures { λ r. ⌜ r ≡ pairAt (now (head .entry)) pair partitions cokey count ⌝ }
 {
     let fields = head[5] as u32 == count;
-    let partitions = head[pair] as u32 == partition;
+    let shared = words::sets_agree(partitions, head[pair]);
     let keys = head[pair + 1] as u32 == cokey;
-    fields & partitions & keys
+    fields & shared & keys
 }

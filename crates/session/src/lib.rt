@@ -175,15 +175,15 @@ fn make(space: &mut [u64], asked: Call, words: &[u64], result: &mut [u64]) -> An
     ensures { λ r. ⌜ Made (meant r) (now (space .exit)) (now (result .exit)) (call (now (space .entry)) (meantCall asked (now (words .entry)))) ⌝ }
 {
     match asked {
-        Call::Put(party, rpart, rkey, tpart, tkey, n) => {
-            space::put(space, party, rpart, rkey, tpart, tkey, &words[..n])
+        Call::Put(party, rparts, rkey, tparts, tkey, n) => {
+            space::put(space, party, rparts, rkey, tparts, tkey, &words[..n])
         }
-        Call::Seek(op, party, partition, key, n) => {
+        Call::Seek(op, party, partitions, key, n) => {
             let fields = &words[..n];
             match op {
-                Op::Looking => space::look(space, party, partition, key, fields, result),
-                Op::Receiving => space::receive(space, party, partition, key, fields, result),
-                Op::Taking => space::take(space, party, partition, key, fields, result),
+                Op::Looking => space::look(space, party, partitions, key, fields, result),
+                Op::Receiving => space::receive(space, party, partitions, key, fields, result),
+                Op::Taking => space::take(space, party, partitions, key, fields, result),
             }
         }
     }

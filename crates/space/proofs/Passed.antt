@@ -10,6 +10,7 @@ use lib.Dec.{eqb, ltb}
 use lib.IntN.{ℤ}
 use lib.ListN.{length, getD}
 use Rattle.rules.specs.Names.{keyInRange}
+use Rattle.rules.specs.Partitions.{sets}
 use Rattle.rules.specs.Matching.{Pair}
 use Rattle.rules.specs.Calls.{put, Table, firstThatApplies, badPair, putTable, seekTable}
 use Rattle.rules.specs.Words.{decode, sound}
@@ -32,10 +33,10 @@ pub record SeekPassed (ws : List ℕ) (who : ℕ) (p : Pair ℤ) (t : List ℕ) 
   pub fits : length t ≤ room
 
 pub seek-passed : (ws : List ℕ) (who : ℕ) (p : Pair ℤ) (t : List ℕ) (room : ℕ)
-    → firstThatApplies ((not (sound ws), 1) ∷ seekTable (decode ws) who p t room) ≡ none → SeekPassed ws who p t room
+    → firstThatApplies ((not (sound ws), 1) ∷ seekTable sets (decode ws) who p t room) ≡ none → SeekPassed ws who p t room
 unfolding seekTable
 seek-passed ws who p t room e =
-    let tests : Table = (not (sound ws), 1) ∷ seekTable (decode ws) who p t room in
+    let tests : Table = (not (sound ws), 1) ∷ seekTable sets (decode ws) who p t room in
     let r : All (λ t. t .0 ≡ false) tests = passed tests e in
     let h : who ≤ 7 = ltb-false 7 who (r .1 .0) in
     record {
@@ -57,12 +58,12 @@ pub put-passed : (ws : List ℕ) (who : ℕ) (r t : Pair ℤ) (fs : List ℕ) �
 unfolding putTable
 put-passed ws who r t fs e =
     let s : sound ws ≡ true = passes-sound ws (put who r t fs) e in
-    let p : All (λ t. t .0 ≡ false) (putTable (decode ws) who r t fs) = passed (putTable (decode ws) who r t fs) (passes-table ws (put who r t fs) e) in
+    let p : All (λ t. t .0 ≡ false) (putTable sets (decode ws) who r t fs) = passed (putTable sets (decode ws) who r t fs) (passes-table ws (put who r t fs) e) in
     let room : length (decode ws .entries) < 128 = rows-suffice ws s .1 who r t fs e in
     record {
       isSound = s;
       few = few-passed fs (p .1 .0);
-      readRange = pair-in-range r (or-left (badPair r) (badPair t) (p .1 .1 .0));
-      takeRange = pair-in-range t (or-right (badPair r) (badPair t) (p .1 .1 .0));
+      readRange = pair-in-range r (or-left (badPair sets r) (badPair sets t) (p .1 .1 .0));
+      takeRange = pair-in-range t (or-right (badPair sets r) (badPair sets t) (p .1 .1 .0));
       room = omega (arith, decode-len ws);
     }

@@ -16,6 +16,7 @@ use lib.ListN.{length, getD, take, drop, length-take, length-drop}
 use lib.Seq.{drop-drop, take-at}
 use Rattle.rules.specs.Lists.{first}
 use Rattle.rules.specs.Names.{Name, partition, key}
+use Rattle.rules.specs.Partitions.{sets}
 use Rattle.rules.specs.Fields.{namesIn}
 use Rattle.rules.specs.Matching.{Pair, pair, storedPair, Entry, Op, looking, receiving, taking, matches}
 use Rattle.rules.specs.State.{State, give, giveAll, withEntries}
@@ -48,13 +49,13 @@ take-own (suc k) (x ∷ l) = ap (λ (r : List ℕ). x ∷ r) (take-own k l)
 -- what was sought, by the table and the place
 module _ (ws : List ℕ) (op : Op) (who : ℕ) (p : Pair ℤ) (t : List ℕ) (room : ℕ) where
   abbrev Whole : Table
-  Whole = (not (sound ws), 1) ∷ seekTable (decode ws) who p t room
+  Whole = (not (sound ws), 1) ∷ seekTable sets (decode ws) who p t room
 
   pub sought-refused : (n : ℕ) → firstThatApplies Whole ≡ some n → Refused n ≡ soughtIn ws op who p t room
   unfolding soughtIn
   sought-refused n e = rw e refl
 
-  pub sought-placed : firstThatApplies Whole ≡ none → (f : search.Found) → f ≡ place (matches op (storedPair p) t) (decode ws .entries)
+  pub sought-placed : firstThatApplies Whole ≡ none → (f : search.Found) → f ≡ place (matches sets op (storedPair p) t) (decode ws .entries)
       → atPlace f ≡ soughtIn ws op who p t room
   unfolding soughtIn
   sought-placed e f q = rw e (ap atPlace q)
@@ -94,7 +95,7 @@ granted-at ws result left last who r n l low few h g =
 module _ (ws : List ℕ) (op : Op) (who : ℕ) (p : Pair ℤ) (t result : List ℕ) where
   record Hit (r : ℕ) : Type 0 where
     pub passes : Passes ws (seek op who p t result)
-    pub place : PlaceFound (matches op (storedPair p) t) (decode ws .entries) r
+    pub place : PlaceFound (matches sets op (storedPair p) t) (decode ws .entries) r
 
   -- the answer and the result by what was sought, with the words that the space has then
   abbrev ended : Sought → List ℕ → Exit
@@ -119,21 +120,21 @@ module _ (ws : List ℕ) (op : Op) (who : ℕ) (p : Pair ℤ) (t result : List �
   Came Nothing = ended Nothing ws ≡ call ws (seek op who p t result)
   Came (Refused n) = ended (Refused n) ws ≡ call ws (seek op who p t result)
 
-  none-came : Passes ws (seek op who p t result) → first (matches op (storedPair p) t) (decode ws .entries) ≡ none
+  none-came : Passes ws (seek op who p t result) → first (matches sets op (storedPair p) t) (decode ws .entries) ≡ none
       → call ws (seek op who p t result) ≡ exit nothing ws result
   none-came e f =
       passes-call ws (seek op who p t result) e
       ∙ rw (f, encode-decode ws (passes-sound ws (seek op who p t result) e)) refl
 
   came-by : (o : Option ℕ) → firstThatApplies (refusals ws (seek op who p t result)) ≡ o
-      → (f : search.Found) → place (matches op (storedPair p) t) (decode ws .entries) ≡ f → Came (soughtBy o f)
+      → (f : search.Found) → place (matches sets op (storedPair p) t) (decode ws .entries) ≡ f → Came (soughtBy o f)
   came-by (some n) e f q = sym (call-by ws (seek op who p t result) ∙ rw e refl)
-  came-by none e (search-found.At r) q = record { passes = e; place = place-found (matches op (storedPair p) t) (decode ws .entries) r q }
-  came-by none e search-found.Nothing q = sym (none-came e (place-none (matches op (storedPair p) t) (decode ws .entries) q))
+  came-by none e (search-found.At r) q = record { passes = e; place = place-found (matches sets op (storedPair p) t) (decode ws .entries) r q }
+  came-by none e search-found.Nothing q = sym (none-came e (place-none (matches sets op (storedPair p) t) (decode ws .entries) q))
 
   came : (s : Sought) → s ≡ soughtIn ws op who p t (length result) → Came s
   unfolding soughtIn
-  came s e = rw e (came-by (firstThatApplies (refusals ws (seek op who p t result))) refl (place (matches op (storedPair p) t) (decode ws .entries)) refl)
+  came s e = rw e (came-by (firstThatApplies (refusals ws (seek op who p t result))) refl (place (matches sets op (storedPair p) t) (decode ws .entries)) refl)
 
   -- no entry found
   pub unfound-call : (s : Sought) → s ≡ soughtIn ws op who p t (length result) → Unfound s
@@ -169,7 +170,7 @@ module _ (ws : List ℕ) (op : Op) (who : ℕ) (p : Pair ℤ) (t result : List �
         call ws (seek op who p t result)
         ≡ exit (found (length t))
         (encode (giveAll who (gained op (h .place .entry))
-        (withEntries (remaining op (matches op (storedPair p) t) (decode ws .entries)) (decode ws))))
+        (withEntries (remaining op (matches sets op (storedPair p) t) (decode ws .entries)) (decode ws))))
         (h .place .entry .fields ++ drop (length t) result)
     hit-call = passes-call ws (seek op who p t result) (h .passes) ∙ rw (h .place .found, ← count-is) refl
 

@@ -7,6 +7,7 @@ use mathlib.Core.Option.{Option, none, some}
 use mathlib.Core.List.{List, [], _∷_}
 use native.Mathlib.Omega.{arith}
 use Rattle.rules.specs.Lists.{first, All}
+use Rattle.rules.specs.Partitions.{sets}
 use Rattle.rules.specs.Matching.{storedPair, Entry, matches}
 use Rattle.rules.specs.Calls.{Call, put, seek, Table, firstThatApplies, putTable, seekTable, remaining, finding, serve}
 use Rattle.rules.specs.Words.{decode, asked, call, refusals, openRefusals, openBy, opening}
@@ -37,11 +38,11 @@ call-small ws c = rw (call-by ws c) (go (firstThatApplies (refusals ws c)) refl)
     found-small es m h none e s op who left = tt
     found-small es m h (some x) e s op who left = first-All EntryOk m es x h e .0 .few
 
-    served-small : (c : Call (List ℕ)) → firstThatApplies (refusals ws c) ≡ none → Small (serve (decode ws) (asked c) .answer)
+    served-small : (c : Call (List ℕ)) → firstThatApplies (refusals ws c) ≡ none → Small (serve sets (decode ws) (asked c) .answer)
     served-small (put who r t fs) e = tt
     served-small (seek op who p t result) e =
-        found-small (decode ws .entries) (matches op (storedPair p) t) (wf-decode ws (passes-sound ws (seek op who p t result) e) .rows)
-        (first (matches op (storedPair p) t) (decode ws .entries)) refl (decode ws) op who (remaining op (matches op (storedPair p) t) (decode ws .entries))
+        found-small (decode ws .entries) (matches sets op (storedPair p) t) (wf-decode ws (passes-sound ws (seek op who p t result) e) .rows)
+        (first (matches sets op (storedPair p) t) (decode ws .entries)) refl (decode ws) op who (remaining op (matches sets op (storedPair p) t) (decode ws .entries))
 
     go : (o : Option ℕ) → firstThatApplies (refusals ws c) ≡ o → Small (callBy o ws c .answer)
     go (some n) e = numbers-small (refusals ws c) n (table-small ws c) e

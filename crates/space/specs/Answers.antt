@@ -5,6 +5,7 @@ use mathlib.Core.Option.{Option, none, some}
 use Prim.Native.Nat.{ℕ, _+_, _≤_}
 use lib.IntN.{ℤ}
 use lib.ListN.{take, drop}
+use Rattle.rules.specs.Partitions.{sets}
 use Rattle.rules.specs.Fields.{namesIn}
 use Rattle.rules.specs.Matching.{Pair, storedPair, Op, matches}
 use Rattle.rules.specs.State.{giveAll}
@@ -52,7 +53,7 @@ soughtBy none f = atPlace f
 -- R1 to R7, M5: the first refusal that applies, or where the search finds the oldest match
 unfoldable pub soughtIn : List ℕ → Op → ℕ → Pair ℤ → List ℕ → ℕ → Sought
 soughtIn ws op who p t room =
-    soughtBy (firstThatApplies ((not (sound ws), 1) ∷ seekTable (decode ws) who p t room)) (place (matches op (storedPair p) t) (decode ws .entries))
+    soughtBy (firstThatApplies ((not (sound ws), 1) ∷ seekTable sets (decode ws) who p t room)) (place (matches sets op (storedPair p) t) (decode ws .entries))
 
 -- L4: the first n field words of row r
 abbrev pub fieldsAt : ℕ → ℕ → List ℕ → List ℕ

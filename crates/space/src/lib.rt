@@ -46,27 +46,35 @@ pub fn open(space: &mut [u64], roster: &[u64]) -> Answer
 pub fn put(
     space: &mut [u64],
     party: u32,
-    rpart: u32,
-    rkey: i32,
-    tpart: u32,
-    tkey: i32,
+    read_partitions: u64,
+    read_key: i32,
+    take_partitions: u64,
+    take_key: i32,
     fields: &[u64],
 ) -> Answer
-    ensures { λ r. ⌜ exit (meant r) (now (space .exit)) [] ≡ call (now (space .entry)) (put party (pair rpart rkey) (pair tpart tkey) (now (fields .entry))) ⌝ }
+    ensures { λ r. ⌜ exit (meant r) (now (space .exit)) [] ≡ call (now (space .entry)) (put party (pair «read_partitions» «read_key») (pair «take_partitions» «take_key») (now (fields .entry))) ⌝ }
 {
-    let verdict = refusals::of_put(space, party, rpart, rkey, tpart, tkey, fields);
+    let verdict = refusals::of_put(
+        space,
+        party,
+        read_partitions,
+        read_key,
+        take_partitions,
+        take_key,
+        fields,
+    );
     if let Verdict::Refused(number) = verdict {
         return Answer::Refused(number);
     }
-    let read_key = words::stored_key(rkey);
-    let take_key = words::stored_key(tkey);
+    let stored_read = words::stored_key(read_key);
+    let stored_take = words::stored_key(take_key);
     edits::add_row(
         space,
         party as u64,
-        rpart as u64,
-        read_key,
-        tpart as u64,
-        take_key,
+        read_partitions,
+        stored_read,
+        take_partitions,
+        stored_take,
         fields,
     );
     Answer::Done
@@ -76,14 +84,14 @@ pub fn put(
 pub fn look(
     space: &[u64],
     party: u32,
-    partition: u32,
+    partitions: u64,
     key: i32,
     fields: &[u64],
     result: &mut [u64],
 ) -> Answer
-    ensures { λ r. ⌜ exit (meant r) (now (space .entry)) (now (result .exit)) ≡ call (now (space .entry)) (seek looking party (pair partition key) (now (fields .entry)) (now (result .entry))) ⌝ }
+    ensures { λ r. ⌜ exit (meant r) (now (space .entry)) (now (result .exit)) ≡ call (now (space .entry)) (seek looking party (pair partitions key) (now (fields .entry)) (now (result .entry))) ⌝ }
 {
-    let found = seek(space, Op::Looking, party, partition, key, fields, result);
+    let found = seek(space, Op::Looking, party, partitions, key, fields, result);
     answer_of(found, fields.len())
 }
 
@@ -91,14 +99,14 @@ pub fn look(
 pub fn receive(
     space: &mut [u64],
     party: u32,
-    partition: u32,
+    partitions: u64,
     key: i32,
     fields: &[u64],
     result: &mut [u64],
 ) -> Answer
-    ensures { λ r. ⌜ exit (meant r) (now (space .exit)) (now (result .exit)) ≡ call (now (space .entry)) (seek receiving party (pair partition key) (now (fields .entry)) (now (result .entry))) ⌝ }
+    ensures { λ r. ⌜ exit (meant r) (now (space .exit)) (now (result .exit)) ≡ call (now (space .entry)) (seek receiving party (pair partitions key) (now (fields .entry)) (now (result .entry))) ⌝ }
 {
-    let found = obtain(space, Op::Receiving, party, partition, key, fields, result);
+    let found = obtain(space, Op::Receiving, party, partitions, key, fields, result);
     answer_of(found, fields.len())
 }
 
@@ -106,15 +114,15 @@ pub fn receive(
 pub fn take(
     space: &mut [u64],
     party: u32,
-    partition: u32,
+    partitions: u64,
     key: i32,
     fields: &[u64],
     result: &mut [u64],
 ) -> Answer
-    ensures { λ r. ⌜ exit (meant r) (now (space .exit)) (now (result .exit)) ≡ call (now (space .entry)) (seek taking party (pair partition key) (now (fields .entry)) (now (result .entry))) ⌝ }
+    ensures { λ r. ⌜ exit (meant r) (now (space .exit)) (now (result .exit)) ≡ call (now (space .entry)) (seek taking party (pair partitions key) (now (fields .entry)) (now (result .entry))) ⌝ }
 {
     let n = fields.len();
-    let found = obtain(space, Op::Taking, party, partition, key, fields, result);
+    let found = obtain(space, Op::Taking, party, partitions, key, fields, result);
     let Sought::At(row) = found else {
         return answer_of(found, n);
     };
@@ -127,17 +135,17 @@ fn obtain(
     space: &mut [u64],
     op: Op,
     party: u32,
-    partition: u32,
+    partitions: u64,
     key: i32,
     fields: &[u64],
     result: &mut [u64],
 ) -> Sought
-    ensures { λ r. ⌜ r ≡ soughtIn (now (space .entry)) (place.meant op) party (pair partition key) (now (fields .entry)) (length (now (result .entry))) ⌝ }
+    ensures { λ r. ⌜ r ≡ soughtIn (now (space .entry)) (place.meant op) party (pair partitions key) (now (fields .entry)) (length (now (result .entry))) ⌝ }
     ensures { λ r. ⌜ now (space .exit) ≡ granted r party (length (now (fields .entry))) (now (space .entry)) ⌝ }
     ensures { λ r. ⌜ now (result .exit) ≡ written r (length (now (fields .entry))) (now (space .entry)) (now (result .entry)) ⌝ }
 {
     let n = fields.len();
-    let found = seek(space, op, party, partition, key, fields, result);
+    let found = seek(space, op, party, partitions, key, fields, result);
     let Sought::At(row) = found else {
         return found;
     };
@@ -150,24 +158,24 @@ fn seek(
     space: &[u64],
     op: Op,
     party: u32,
-    partition: u32,
+    partitions: u64,
     key: i32,
     fields: &[u64],
     result: &mut [u64],
 ) -> Sought
-    ensures { λ r. ⌜ r ≡ soughtIn (now (space .entry)) (place.meant op) party (pair partition key) (now (fields .entry)) (length (now (result .entry))) ⌝ }
+    ensures { λ r. ⌜ r ≡ soughtIn (now (space .entry)) (place.meant op) party (pair partitions key) (now (fields .entry)) (length (now (result .entry))) ⌝ }
     ensures { λ r. ⌜ now (result .exit) ≡ written r (length (now (fields .entry))) (now (space .entry)) (now (result .entry)) ⌝ }
 {
     // parts of their own: passed on whole, a slice is read byte by byte on the board's smaller core
     let template = &fields[0..];
     let shared = &space[0..];
-    let admission = refusals::of_seek(shared, party, partition, key, template, result.len());
+    let admission = refusals::of_seek(shared, party, partitions, key, template, result.len());
     if let Admission::Refused(number) = admission {
         return Sought::Refused(number);
     }
     let bounded = refusals::has_bounds(admission);
     let cokey = words::stored_co_key(key);
-    let Found::At(row) = search::search(shared, op, partition, cokey, template, bounded) else {
+    let Found::At(row) = search::search(shared, op, partitions, cokey, template, bounded) else {
         return Sought::Nothing;
     };
     copy_out(shared, row, fields.len(), result);

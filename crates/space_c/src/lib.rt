@@ -22,15 +22,23 @@ pub extern "C" fn space_open(space: &mut [u64], roster: &[u64]) -> u32
 pub extern "C" fn space_put(
     space: &mut [u64],
     party: u32,
-    rpart: u32,
-    rkey: i32,
-    tpart: u32,
-    tkey: i32,
+    read_partitions: u64,
+    read_key: i32,
+    take_partitions: u64,
+    take_key: i32,
     fields: &[u64],
 ) -> u32
-    ensures { λ r. ⌜ Left r (now (space .exit)) [] (call (now (space .entry)) (put party (pair rpart rkey) (pair tpart tkey) (now (fields .entry)))) ⌝ }
+    ensures { λ r. ⌜ Left r (now (space .exit)) [] (call (now (space .entry)) (put party (pair «read_partitions» «read_key») (pair «take_partitions» «take_key») (now (fields .entry)))) ⌝ }
 {
-    code(space::put(space, party, rpart, rkey, tpart, tkey, fields))
+    code(space::put(
+        space,
+        party,
+        read_partitions,
+        read_key,
+        take_partitions,
+        take_key,
+        fields,
+    ))
 }
 
 // C8
@@ -38,14 +46,14 @@ pub extern "C" fn space_put(
 pub extern "C" fn space_look(
     space: &[u64],
     party: u32,
-    partition: u32,
+    partitions: u64,
     key: i32,
     fields: &[u64],
     result: &mut [u64],
 ) -> u32
-    ensures { λ r. ⌜ Left r (now (space .entry)) (now (result .exit)) (call (now (space .entry)) (seek looking party (pair partition key) (now (fields .entry)) (now (result .entry)))) ⌝ }
+    ensures { λ r. ⌜ Left r (now (space .entry)) (now (result .exit)) (call (now (space .entry)) (seek looking party (pair partitions key) (now (fields .entry)) (now (result .entry)))) ⌝ }
 {
-    code(space::look(space, party, partition, key, fields, result))
+    code(space::look(space, party, partitions, key, fields, result))
 }
 
 // C3
@@ -53,14 +61,14 @@ pub extern "C" fn space_look(
 pub extern "C" fn space_receive(
     space: &mut [u64],
     party: u32,
-    partition: u32,
+    partitions: u64,
     key: i32,
     fields: &[u64],
     result: &mut [u64],
 ) -> u32
-    ensures { λ r. ⌜ Left r (now (space .exit)) (now (result .exit)) (call (now (space .entry)) (seek receiving party (pair partition key) (now (fields .entry)) (now (result .entry)))) ⌝ }
+    ensures { λ r. ⌜ Left r (now (space .exit)) (now (result .exit)) (call (now (space .entry)) (seek receiving party (pair partitions key) (now (fields .entry)) (now (result .entry)))) ⌝ }
 {
-    code(space::receive(space, party, partition, key, fields, result))
+    code(space::receive(space, party, partitions, key, fields, result))
 }
 
 // C4
@@ -68,14 +76,14 @@ pub extern "C" fn space_receive(
 pub extern "C" fn space_take(
     space: &mut [u64],
     party: u32,
-    partition: u32,
+    partitions: u64,
     key: i32,
     fields: &[u64],
     result: &mut [u64],
 ) -> u32
-    ensures { λ r. ⌜ Left r (now (space .exit)) (now (result .exit)) (call (now (space .entry)) (seek taking party (pair partition key) (now (fields .entry)) (now (result .entry)))) ⌝ }
+    ensures { λ r. ⌜ Left r (now (space .exit)) (now (result .exit)) (call (now (space .entry)) (seek taking party (pair partitions key) (now (fields .entry)) (now (result .entry)))) ⌝ }
 {
-    code(space::take(space, party, partition, key, fields, result))
+    code(space::take(space, party, partitions, key, fields, result))
 }
 
 // D1 to D5: a roster from a file.

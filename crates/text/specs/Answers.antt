@@ -12,6 +12,8 @@ use Rattle.text.specs.declared.Number as number
 use Rattle.text.specs.declared.Number.{Number}
 use Rattle.text.specs.declared.SignedNumber as signed-number
 use Rattle.text.specs.declared.SignedNumber.{SignedNumber}
+use Rattle.text.specs.declared.Partitions as partitions
+use Rattle.text.specs.declared.Partitions.{Partitions}
 use Rattle.text.specs.declared.Word as word
 use Rattle.text.specs.declared.Word.{Word}
 use Rattle.text.specs.declared.Fields as fields
@@ -24,6 +26,10 @@ numberOf (some v) = number.the-variants.Value v
 unfoldable pub signedOf : Option ℤ → SignedNumber
 signedOf none = signed-number.the-variants.Unreadable
 signedOf (some k) = signed-number.the-variants.Value k
+
+unfoldable pub setOf : Option ℕ → Partitions
+setOf none = partitions.the-variants.Unreadable
+setOf (some set) = partitions.the-variants.Set set
 
 unfoldable pub wordOf : Option ℕ → Word
 wordOf none = word.the-variants.Unreadable

@@ -1,4 +1,4 @@
-// The console's text: numbers, fields and lists of fields, read from bytes and rendered to bytes.
+// The console's text: numbers, sets of partitions, fields and lists of fields read from bytes, and fields rendered to bytes.
 use numbers::Natural;
 use numbers::Whole;
 use words::Field;
@@ -7,8 +7,9 @@ ghost use Prim.Native.Nat.{_+_, _≤_};
 ghost use lib.ListN.{length};
 ghost use Rattle.numbers.specs.Written.{Written};
 ghost use Rattle.text.specs.Numbers.{unsigned, signed};
+ghost use Rattle.text.specs.Partitions.{readPartitions};
 ghost use Rattle.text.specs.Fields.{ofKind, storedIn, readField, renderField, isDash, readFields, wordsAfter, renderFields};
-ghost use Rattle.text.specs.Answers.{numberOf, signedOf, wordOf, countOf, numberIn, signedIn, valueIn, keyIn};
+ghost use Rattle.text.specs.Answers.{numberOf, signedOf, setOf, wordOf, countOf, numberIn, signedIn, valueIn, keyIn};
 
 // What a text reads as, as an unsigned number.
 pub enum Number {
@@ -19,6 +20,12 @@ pub enum Number {
 // What a text reads as, as a signed number.
 pub enum SignedNumber {
     Value(i32),
+    Unreadable,
+}
+
+// What a text reads as, as the set of partitions of a pair.
+pub enum Partitions {
+    Set(u64),
     Unreadable,
 }
 
@@ -68,6 +75,28 @@ pub fn read_signed(text: &[u8]) -> SignedNumber
     ensures { λ r. ⌜ r ≡ signedOf (signed (now (text .entry))) ⌝ }
 {
     in_32_signed(numbers::read_whole(text))
+}
+
+// T16: part by part; left at the first that is no partition, or not past the one before it.
+pub fn read_partitions(text: &[u8]) -> Partitions
+    ensures { λ r. ⌜ r ≡ setOf (readPartitions (now (text .entry))) ⌝ }
+{
+    let mut set = 0u64;
+    let mut least = 0;
+    let mut at = 0;
+    while at <= text.len() {
+        let end = numbers::part_end(text, at, 58);
+        let Natural::Value(c) = numbers::read_natural(&text[at..end], 63) else {
+            return Partitions::Unreadable;
+        };
+        if c < least {
+            return Partitions::Unreadable;
+        }
+        set = words::with_bit(set, c as u64);
+        least = c + 1;
+        at = end + 1;
+    }
+    Partitions::Set(set)
 }
 
 // T6

@@ -1,10 +1,11 @@
-// Words: the bits of holdings, the kinds of field words, stored keys.
+// Words: the bits of sets and holdings, the kinds of field words, stored keys.
 ghost use mathlib.Core.Path.{_≡_};
 ghost use mathlib.Core.Bool.{true};
 ghost use Prim.Native.Nat.{_<_};
 ghost use lib.ListN.{length};
 ghost use Rattle.rules.specs.Lists.{all};
-ghost use Rattle.rules.specs.Names.{bit, withBit, setBit, heldIn, keyInRange, coKey, stored};
+ghost use Rattle.rules.specs.Names.{bit, bitsIn, withBit, setBit, heldIn, keyInRange, coKey, stored};
+ghost use Rattle.rules.specs.Partitions.{setsAgree};
 ghost use Rattle.rules.specs.Fields.{field, putField, templateField, nameIn, fieldAgrees};
 ghost use Rattle.words.specs.Kind.{meant, plain};
 
@@ -141,6 +142,20 @@ pub fn has_bit(w: u64, c: u64) -> bool
     ensures { λ r. ⌜ r ≡ bit w c ⌝ }
 {
     if c < 64 { (w >> c) % 2 == 1 } else { false }
+}
+
+// M3: the sets share a partition.
+pub fn sets_agree(t: u64, e: u64) -> bool
+    ensures { λ r. ⌜ r ≡ setsAgree t e ⌝ }
+{
+    t & e != 0
+}
+
+// R7: every partition of the set is held.
+pub fn set_held(partitions: u64, set: u64) -> bool
+    ensures { λ r. ⌜ r ≡ all (bit partitions) (bitsIn set) ⌝ }
+{
+    set & partitions == set
 }
 
 // L2

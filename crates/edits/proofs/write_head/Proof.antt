@@ -31,7 +31,7 @@ same-length c = search needs
 returns : tie.Need-returns
 returns c =
     let a = c .args in
-    sets-eq (a .writer ∷ a .rpart ∷ a .rkey ∷ a .tpart ∷ a .tkey ∷ a .n ∷ []) (a .row .now) 0 (search needs)
+    sets-eq (a .writer ∷ a .rparts ∷ a .rkey ∷ a .tparts ∷ a .tkey ∷ a .n ∷ []) (a .row .now) 0 (search needs)
 
 pub write-head-spec : {M : Type 1} → statement M
 write-head-spec =

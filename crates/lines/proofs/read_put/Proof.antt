@@ -28,43 +28,43 @@ who-start c = number-start (who-number c)
 abbrev read-in-who : tie.After-pair-in → tie.After-who
 read-in-who c = c .before .before
 
-abbrev read-pair-read-in : tie.After-rpart → tie.After-pair-in
+abbrev read-pair-read-in : tie.After-rparts → tie.After-pair-in
 read-pair-read-in c = c .before .before
 
-abbrev read-pair-start : tie.After-rpart → tie.Start
+abbrev read-pair-start : tie.After-rparts → tie.Start
 read-pair-start c = who-start (read-in-who (read-pair-read-in c))
 
-abbrev read-told-read-pair : tie.After-known-told2 → tie.After-rpart
+abbrev read-told-read-pair : tie.After-known-told2 → tie.After-rparts
 read-told-read-pair c = c .before
 
 abbrev take-in-read-told : tie.After-pair-in2 → tie.After-known-told2
 take-in-read-told c = c .before
 
-abbrev take-in-read-pair : tie.After-pair-in2 → tie.After-rpart
+abbrev take-in-read-pair : tie.After-pair-in2 → tie.After-rparts
 take-in-read-pair c = read-told-read-pair (take-in-read-told c)
 
 abbrev take-in-who : tie.After-pair-in2 → tie.After-who
 take-in-who c = read-in-who (read-pair-read-in (take-in-read-pair c))
 
-abbrev take-pair-take-in : tie.After-tpart → tie.After-pair-in2
+abbrev take-pair-take-in : tie.After-tparts → tie.After-pair-in2
 take-pair-take-in c = c .before .before
 
-abbrev take-pair-start : tie.After-tpart → tie.Start
+abbrev take-pair-start : tie.After-tparts → tie.Start
 take-pair-start c = read-pair-start (read-told-read-pair (take-in-read-told (take-pair-take-in c)))
 
-abbrev take-told-take-pair : tie.After-known-told3 → tie.After-tpart
+abbrev take-told-take-pair : tie.After-known-told3 → tie.After-tparts
 take-told-take-pair c = c .before
 
 abbrev fields-take-told : tie.After-fields-in → tie.After-known-told3
 fields-take-told c = c .before .before
 
-abbrev fields-take-pair : tie.After-fields-in → tie.After-tpart
+abbrev fields-take-pair : tie.After-fields-in → tie.After-tparts
 fields-take-pair c = take-told-take-pair (fields-take-told c)
 
 abbrev fields-read-told : tie.After-fields-in → tie.After-known-told2
 fields-read-told c = take-in-read-told (take-pair-take-in (fields-take-pair c))
 
-abbrev fields-read-pair : tie.After-fields-in → tie.After-rpart
+abbrev fields-read-pair : tie.After-fields-in → tie.After-rparts
 fields-read-pair c = read-told-read-pair (fields-read-told c)
 
 abbrev fields-who : tie.After-fields-in → tie.After-who
@@ -101,16 +101,16 @@ no-party-number c = c .before .before
 party : (c : tie.After-who) → unsigned (item 1 (who-start c .args .line .now)) ≡ some (c .who .given .0 .0)
 party c = readable _ _ (sym (c .who .given .1) ∙ who-number c .number-in .ensures)
 
-read-pair : (c : tie.After-rpart) → readPair 2 (read-pair-start c .args .line .now) ≡ some (pair (c .rpart .given .0 .0) (c .rpart .given .0 .1 .0))
-read-pair c = sym (read-pair-read-in c .pair-in .ensures) ∙ ap meantPair (c .rpart .given .1)
+read-pair : (c : tie.After-rparts) → readPair 2 (read-pair-start c .args .line .now) ≡ some (pair (c .rparts .given .0 .0) (c .rparts .given .0 .1 .0))
+read-pair c = sym (read-pair-read-in c .pair-in .ensures) ∙ ap meantPair (c .rparts .given .1)
 
-take-pair : (c : tie.After-tpart) → readPair 4 (take-pair-start c .args .line .now) ≡ some (pair (c .tpart .given .0 .0) (c .tpart .given .0 .1 .0))
-take-pair c = sym (take-pair-take-in c .pair-in2 .ensures) ∙ ap meantPair (c .tpart .given .1)
+take-pair : (c : tie.After-tparts) → readPair 4 (take-pair-start c .args .line .now) ≡ some (pair (c .tparts .given .0 .0) (c .tparts .given .0 .1 .0))
+take-pair c = sym (take-pair-take-in c .pair-in2 .ensures) ∙ ap meantPair (c .tparts .given .1)
 
-read-key : (c : tie.After-known-told2) → toZ w32 (ofZ w32 (read-told-read-pair c .rpart .given .0 .1 .0)) ≡ (read-told-read-pair c .rpart .given .0 .1 .0)
+read-key : (c : tie.After-known-told2) → toZ w32 (ofZ w32 (read-told-read-pair c .rparts .given .0 .1 .0)) ≡ (read-told-read-pair c .rparts .given .0 .1 .0)
 read-key c = toZ-ofZ (record { sfits = c .known-told2 .given .1 .0 .1 })
 
-take-key : (c : tie.After-known-told3) → toZ w32 (ofZ w32 (take-told-take-pair c .tpart .given .0 .1 .0)) ≡ (take-told-take-pair c .tpart .given .0 .1 .0)
+take-key : (c : tie.After-known-told3) → toZ w32 (ofZ w32 (take-told-take-pair c .tparts .given .0 .1 .0)) ≡ (take-told-take-pair c .tparts .given .0 .1 .0)
 take-key c = toZ-ofZ (record { sfits = c .known-told3 .given .1 .0 .1 })
 
 number-in-requires : tie.Need-number-in-requires
@@ -128,8 +128,8 @@ returns c = unread (put-by _ (unreadable _ (sym (c .enum-told .given .1) ∙ no-
 pair-in-requires : tie.Need-pair-in-requires
 pair-in-requires c κs = search needs
 
-enum-known-rpart : tie.Need-enum-known-rpart
-enum-known-rpart c = search needs
+enum-known-rparts : tie.Need-enum-known-rparts
+enum-known-rparts c = search needs
 
 enum-told-2 : tie.Need-enum-told-2
 enum-told-2 c = search needs
@@ -142,8 +142,8 @@ returns-2 c =
 pair-in-requires-2 : tie.Need-pair-in-requires-2
 pair-in-requires-2 c κs = search needs
 
-enum-known-tpart : tie.Need-enum-known-tpart
-enum-known-tpart c = search needs
+enum-known-tparts : tie.Need-enum-known-tparts
+enum-known-tparts c = search needs
 
 enum-told-3 : tie.Need-enum-told-3
 enum-told-3 c = search needs
@@ -192,11 +192,11 @@ read-put-spec =
     enum-told
     returns
     pair-in-requires
-    enum-known-rpart
+    enum-known-rparts
     enum-told-2
     returns-2
     pair-in-requires-2
-    enum-known-tpart
+    enum-known-tparts
     enum-told-3
     returns-3
     fields-in-requires

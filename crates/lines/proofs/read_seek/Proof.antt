@@ -45,23 +45,23 @@ pair-in-who c = c .before .before
 abbrev pair-in-well : tie.After-pair-in → tie.Else1
 pair-in-well c = number-well (who-number (pair-in-who c))
 
-abbrev partition-pair-in : tie.After-partition → tie.After-pair-in
-partition-pair-in c = c .before .before
+abbrev set-pair-in : tie.After-partitions → tie.After-pair-in
+set-pair-in c = c .before .before
 
-abbrev partition-start : tie.After-partition → tie.Start
-partition-start c = who-start (pair-in-who (partition-pair-in c))
+abbrev set-start : tie.After-partitions → tie.Start
+set-start c = who-start (pair-in-who (set-pair-in c))
 
-abbrev pair-told-partition : tie.After-known-told2 → tie.After-partition
-pair-told-partition c = c .before
+abbrev pair-told-set : tie.After-known-told2 → tie.After-partitions
+pair-told-set c = c .before
 
 abbrev fields-pair-told : tie.After-fields-in → tie.After-known-told2
 fields-pair-told c = c .before .before
 
-abbrev fields-partition : tie.After-fields-in → tie.After-partition
-fields-partition c = pair-told-partition (fields-pair-told c)
+abbrev fields-set : tie.After-fields-in → tie.After-partitions
+fields-set c = pair-told-set (fields-pair-told c)
 
 abbrev fields-who : tie.After-fields-in → tie.After-who
-fields-who c = pair-in-who (partition-pair-in (fields-partition c))
+fields-who c = pair-in-who (set-pair-in (fields-set c))
 
 abbrev fields-well : tie.After-fields-in → tie.Else1
 fields-well c = number-well (who-number (fields-who c))
@@ -97,11 +97,11 @@ no-take-pair c = sym (well-pair c .no-take-pair .ensures) ∙ not-false _ (c .if
 party : (c : tie.After-who) → unsigned (item 1 (who-start c .args .line .now)) ≡ some (c .who .given .0 .0)
 party c = readable _ _ (sym (c .who .given .1) ∙ who-number c .number-in .ensures)
 
-pair-read : (c : tie.After-partition) → readPair 2 (partition-start c .args .line .now) ≡ some (pair (c .partition .given .0 .0) (c .partition .given .0 .1 .0))
-pair-read c = sym (partition-pair-in c .pair-in .ensures) ∙ ap meantPair (c .partition .given .1)
+pair-read : (c : tie.After-partitions) → readPair 2 (set-start c .args .line .now) ≡ some (pair (c .partitions .given .0 .0) (c .partitions .given .0 .1 .0))
+pair-read c = sym (set-pair-in c .pair-in .ensures) ∙ ap meantPair (c .partitions .given .1)
 
 key-kept : (c : tie.After-known-told2)
-    → toZ w32 (ofZ w32 (pair-told-partition c .partition .given .0 .1 .0)) ≡ (pair-told-partition c .partition .given .0 .1 .0)
+    → toZ w32 (ofZ w32 (pair-told-set c .partitions .given .0 .1 .0)) ≡ (pair-told-set c .partitions .given .0 .1 .0)
 key-kept c = toZ-ofZ (record { sfits = c .known-told2 .given .1 .0 .1 })
 
 no-take-pair-requires : tie.Need-no-take-pair-requires
@@ -127,8 +127,8 @@ returns-2 c =
 pair-in-requires : tie.Need-pair-in-requires
 pair-in-requires c κs = search needs
 
-enum-known-partition : tie.Need-enum-known-partition
-enum-known-partition c = search needs
+enum-known-partitions : tie.Need-enum-known-partitions
+enum-known-partitions c = search needs
 
 enum-told-2 : tie.Need-enum-told-2
 enum-told-2 c = search needs
@@ -155,7 +155,7 @@ returns-4 : tie.Need-returns-4
 returns-4 c =
     let here = back-fields (no-fields-back c) in
     let f = no-fields _ _ _ (here .fields-in .ensures) (c .enum-told3 .given .1) in
-    unread (seek-by _ _ (no-take-pair (fields-well here)) (party (fields-who here)) (pair-read (fields-partition here)) f)
+    unread (seek-by _ _ (no-take-pair (fields-well here)) (party (fields-who here)) (pair-read (fields-set here)) f)
 
 same-length-2 : tie.Need-same-length-2
 same-length-2 c = search needs
@@ -165,7 +165,7 @@ returns-5 c =
     let here = count-fields (told-count c) in
     let f = here .fields-in .ensures in
     let n = told-count c .n .given .1 in
-    let read = seek-by _ _ (no-take-pair (fields-well here)) (party (fields-who here)) (pair-read (fields-partition here)) (some-fields _ _ _ f _ n) in
+    let read = seek-by _ _ (no-take-pair (fields-well here)) (party (fields-who here)) (pair-read (fields-set here)) (some-fields _ _ _ f _ n) in
     record { is = rw (key-kept (fields-pair-told here)) (sym read); inRange = few-fields _ _ _ f _ n }
 
 pub read-seek-spec : {M : Type 1} → statement M
@@ -179,7 +179,7 @@ read-seek-spec =
     enum-told
     returns-2
     pair-in-requires
-    enum-known-partition
+    enum-known-partitions
     enum-told-2
     returns-3
     fields-in-requires

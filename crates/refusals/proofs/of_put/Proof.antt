@@ -11,6 +11,7 @@ use mir.Facts.{toZ-ofZ}
 use mir.Syntax.{w32}
 use Rattle.rules.specs.Lists.{all}
 use Rattle.rules.specs.Names.{keyInRange}
+use Rattle.rules.specs.Partitions.{sets}
 use Rattle.rules.specs.Matching.{Pair, pair}
 use Rattle.rules.specs.State.{holds, live}
 use Rattle.rules.specs.Calls.{Table, firstThatApplies, badPair, putNames, putTable}
@@ -58,16 +59,16 @@ held-start c = begun-start (held-begun c)
 
 -- the call's pairs, whether the names that it needs by its keys are held, and its table
 abbrev readPair : tie.Start → Pair ℤ
-readPair s = pair (s .args .rpart) (s .args .rkey)
+readPair s = pair (s .args .read-partitions) (s .args .read-key)
 
 abbrev takePair : tie.Start → Pair ℤ
-takePair s = pair (s .args .tpart) (s .args .tkey)
+takePair s = pair (s .args .take-partitions) (s .args .take-key)
 
 abbrev heldBy : tie.Start → ℤ → ℤ → Bool
-heldBy s r t = let a = s .args in all (holds (decode (a .space .now)) (a .party)) (putNames (pair (a .rpart) r) (pair (a .tpart) t) (a .fields .now))
+heldBy s r t = let a = s .args in all (holds (decode (a .space .now)) (a .party)) (putNames sets (pair (a .read-partitions) r) (pair (a .take-partitions) t) (a .fields .now))
 
 whole : tie.Start → Table
-whole s = let a = s .args in (not (sound (a .space .now)), 1) ∷ putTable (decode (a .space .now)) (a .party) (readPair s) (takePair s) (a .fields .now)
+whole s = let a = s .args in (not (sound (a .space .now)), 1) ∷ putTable sets (decode (a .space .now)) (a .party) (readPair s) (takePair s) (a .fields .now)
 
 -- past k tests, the rest of the table decides
 abbrev Past : ℕ → tie.Start → Type 0
@@ -87,12 +88,12 @@ module _ (c : tie.After-known-told) where
   past-3 v e = first-leaves _ _ _ _ _ (begins (begun-start c)) v (begun-is .0) e
 
 pairs-are : (c : tie.After-bad-pair2)
-    → (badPair (readPair (pairs-start c)) || badPair (takePair (pairs-start c))) ≡ (c .before .bad-pair .result || c .bad-pair2 .result)
+    → (badPair sets (readPair (pairs-start c)) || badPair sets (takePair (pairs-start c))) ≡ (c .before .bad-pair .result || c .bad-pair2 .result)
 pairs-are c =
     let s = pairs-start c in
-    let bad : ℕ → ℤ → Bool = λ p k. badPair (pair p k) in
-    sym (ap₂ (λ (x y : Bool). x || y) (c .before .bad-pair .ensures ∙ ap (bad (s .args .rpart)) (toZ-ofZ {w = w32} (s .fits .rkey)))
-    (c .bad-pair2 .ensures ∙ ap (bad (s .args .tpart)) (toZ-ofZ {w = w32} (s .fits .tkey))))
+    let bad : ℕ → ℤ → Bool = λ p k. badPair sets (pair p k) in
+    sym (ap₂ (λ (x y : Bool). x || y) (c .before .bad-pair .ensures ∙ ap (bad (s .args .read-partitions)) (toZ-ofZ {w = w32} (s .fits .read-key)))
+    (c .bad-pair2 .ensures ∙ ap (bad (s .args .take-partitions)) (toZ-ofZ {w = w32} (s .fits .take-key))))
 
 past-4 : (c : tie.Else1) → Past 4 (pairs-start (c .before))
 unfolding whole putTable
@@ -102,8 +103,8 @@ past-5 : (c : tie.Else2) → Past 5 (pairs-start (fields-pairs (c .before) .befo
 unfolding whole putTable
 past-5 c v e = past-4 (fields-pairs (c .before)) v (leaves _ 5 _ v (ap not (sym (c .before .put-fields .ensures)) ∙ c .if2 .left) e)
 
-held-is : (c : tie.After-put-held) → heldBy (held-start c) (held-start c .args .rkey) (held-start c .args .tkey) ≡ c .put-held .result
-held-is c = let s = held-start c in sym (c .put-held .ensures ∙ ap₂ (heldBy s) (toZ-ofZ {w = w32} (s .fits .rkey)) (toZ-ofZ {w = w32} (s .fits .tkey)))
+held-is : (c : tie.After-put-held) → heldBy (held-start c) (held-start c .args .read-key) (held-start c .args .take-key) ≡ c .put-held .result
+held-is c = let s = held-start c in sym (c .put-held .ensures ∙ ap₂ (heldBy s) (toZ-ofZ {w = w32} (s .fits .read-key)) (toZ-ofZ {w = w32} (s .fits .take-key)))
 
 module _ (c : tie.Else3) where
   past-6 : Past 6 (held-start (c .before))
@@ -153,11 +154,11 @@ put-held-requires : tie.Need-put-held-requires
 put-held-requires c κs =
     let pairs = fields-pairs (c .before) in
     let s = pairs-start (pairs .before) in
-    let good : (badPair (readPair s) || badPair (takePair s)) ≡ false = pairs-are (pairs .before) ∙ pairs .if1 .left in
-    let rkey : keyInRange (s .args .rkey) ≡ true = pair-in-range (readPair s) (or-left (badPair (readPair s)) (badPair (takePair s)) good) in
-    let tkey : keyInRange (s .args .tkey) ≡ true = pair-in-range (takePair s) (or-right (badPair (readPair s)) (badPair (takePair s)) good) in
+    let good : (badPair sets (readPair s) || badPair sets (takePair s)) ≡ false = pairs-are (pairs .before) ∙ pairs .if1 .left in
+    let read-key : keyInRange (s .args .read-key) ≡ true = pair-in-range (readPair s) (or-left (badPair sets (readPair s)) (badPair sets (takePair s)) good) in
+    let take-key : keyInRange (s .args .take-key) ≡ true = pair-in-range (takePair s) (or-right (badPair sets (readPair s)) (badPair sets (takePair s)) good) in
     let f = first-passed _ _ _ (begun-is (pairs-begun (pairs .before)) .0) in
-    (f .0, f .1, ap keyInRange (toZ-ofZ {w = w32} (s .fits .rkey)) ∙ rkey, ap keyInRange (toZ-ofZ {w = w32} (s .fits .tkey)) ∙ tkey, f .2)
+    (f .0, f .1, ap keyInRange (toZ-ofZ {w = w32} (s .fits .read-key)) ∙ read-key, ap keyInRange (toZ-ofZ {w = w32} (s .fits .take-key)) ∙ take-key, f .2)
 
 returns-4 : tie.Need-returns-4
 unfolding whole putTable

@@ -11,6 +11,7 @@ use mir.Facts.{toZ-ofZ}
 use mir.Syntax.{w32}
 use Rattle.rules.specs.Lists.{all}
 use Rattle.rules.specs.Names.{keyInRange}
+use Rattle.rules.specs.Partitions.{sets}
 use Rattle.rules.specs.Matching.{pair}
 use Rattle.rules.specs.State.{holds}
 use Rattle.rules.specs.Calls.{Table, firstThatApplies, badPair, seekNames, seekTable}
@@ -62,12 +63,12 @@ held-start c = fields-start (held-fields c .before)
 
 -- whether the names that the call needs by its key are held, and its table
 abbrev heldBy : tie.Start → ℤ → Bool
-heldBy s k = let a = s .args in all (holds (decode (a .space .now)) (a .party)) (seekNames (pair (a .partition) k) (a .template .now))
+heldBy s k = let a = s .args in all (holds (decode (a .space .now)) (a .party)) (seekNames sets (pair (a .partitions) k) (a .template .now))
 
 whole : tie.Start → Table
 whole s =
     let a = s .args in
-    (not (sound (a .space .now)), 1) ∷ seekTable (decode (a .space .now)) (a .party) (pair (a .partition) (a .key)) (a .template .now) (a .room)
+    (not (sound (a .space .now)), 1) ∷ seekTable sets (decode (a .space .now)) (a .party) (pair (a .partitions) (a .key)) (a .template .now) (a .room)
 
 -- the answer that a verdict makes
 abbrev admits : tie.Start → Verdict → Admission
@@ -88,8 +89,8 @@ module _ (c : tie.After-enum-told) where
   past-3 : Past 3 (begun-start c)
   past-3 v e = first-leaves _ _ _ _ _ (begins (begun-start c)) v begun-is e
 
-pair-is : (c : tie.After-bad-pair) → badPair (pair (pair-start c .args .partition) (pair-start c .args .key)) ≡ c .bad-pair .result
-pair-is c = let s = pair-start c in sym (c .bad-pair .ensures ∙ ap (λ (k : ℤ). badPair (pair (s .args .partition) k)) (toZ-ofZ {w = w32} (s .fits .key)))
+pair-is : (c : tie.After-bad-pair) → badPair sets (pair (pair-start c .args .partitions) (pair-start c .args .key)) ≡ c .bad-pair .result
+pair-is c = let s = pair-start c in sym (c .bad-pair .ensures ∙ ap (λ (k : ℤ). badPair sets (pair (s .args .partitions) k)) (toZ-ofZ {w = w32} (s .fits .key)))
 
 past-4 : (c : tie.Else1) → Past 4 (pair-start (c .before))
 unfolding whole seekTable
@@ -154,9 +155,9 @@ seek-held-requires : tie.Need-seek-held-requires
 seek-held-requires c κs =
     let pair-test = fields-pair (c .before .before) in
     let s = pair-start (pair-test .before) in
-    let good : badPair (pair (s .args .partition) (s .args .key)) ≡ false = pair-is (pair-test .before) ∙ pair-test .if1 .left in
+    let good : badPair sets (pair (s .args .partitions) (s .args .key)) ≡ false = pair-is (pair-test .before) ∙ pair-test .if1 .left in
     let f = first-passed _ _ _ (begun-is (pair-begun (pair-test .before))) in
-    (f .0, f .1, ap keyInRange (toZ-ofZ {w = w32} (s .fits .key)) ∙ pair-in-range (pair (s .args .partition) (s .args .key)) good, f .2)
+    (f .0, f .1, ap keyInRange (toZ-ofZ {w = w32} (s .fits .key)) ∙ pair-in-range (pair (s .args .partitions) (s .args .key)) good, f .2)
 
 returns-5 : tie.Need-returns-5
 unfolding whole seekTable

@@ -2,6 +2,7 @@
 use mathlib.Core.List.{_++_}
 use mir.Facts.{toZ-ofZ}
 use mir.Syntax.{w32}
+use Rattle.rules.specs.Partitions.{sets}
 use Rattle.rules.specs.Matching.{pair, storedPair}
 use Rattle.rules.specs.Calls.{pairNames}
 use Rattle.rules.specs.Fields.{namesIn}
@@ -55,9 +56,9 @@ returns c =
     let a = start .args in
     let ws = a .space .now in
     let names = namesIn (a .fields .now) in
-    held-pair ws (a .party) (search needs) (a .rpart) _ (a .rkey) (pairNames (storedPair (pair (a .tpart) (a .tkey))) ++ names) _ _
-    (toZ-ofZ {w = w32} (start .fits .rkey)) (read .pair-held .ensures)
-    (held-pair ws (a .party) (search needs) (a .tpart) _ (a .tkey) names _ _ (toZ-ofZ {w = w32} (start .fits .tkey)) (take .pair-held2 .ensures)
+    held-pair ws (a .party) (search needs) (a .read-partitions) _ (a .read-key) (pairNames sets (storedPair (pair (a .take-partitions) (a .take-key))) ++ names) _ _
+    (toZ-ofZ {w = w32} (start .fits .read-key)) (read .pair-held .ensures)
+    (held-pair ws (a .party) (search needs) (a .take-partitions) _ (a .take-key) names _ _ (toZ-ofZ {w = w32} (start .fits .take-key)) (take .pair-held2 .ensures)
     (held-fields ws (a .party) (search needs) names _ (c .fields-held .ensures)))
 
 pub put-held-spec : {M : Type 1} → statement M

@@ -10,6 +10,7 @@ use mir.Syntax.{w32}
 use Rattle.rules.specs.Lists.{all}
 use Rattle.rules.specs.Names.{heldIn}
 use Rattle.rules.specs.Fields.{namesIn}
+use Rattle.rules.specs.Partitions.{sets}
 use Rattle.rules.specs.Matching.{pair, storedPair}
 use Rattle.rules.specs.State.{holds}
 use Rattle.rules.specs.Calls.{pairNames, seekNames}
@@ -30,19 +31,19 @@ fields-start c = words-start (c .before)
 abbrev pairHeld : tie.Start → ℤ → Bool
 pairHeld s k =
     let a = s .args in
-    all (heldIn (getD (a .space .now) (1 + a .party) 0) (getD (a .space .now) (9 + a .party) 0)) (pairNames (storedPair (pair (a .partition) k)))
+    all (heldIn (getD (a .space .now) (1 + a .party) 0) (getD (a .space .now) (9 + a .party) 0)) (pairNames sets (storedPair (pair (a .set) k)))
 
 -- by what the test of the names in fields says, b, and that of the pair's, which comes after it
 module _ (c : tie.After-fields-held) (b : Bool) (told : c .fields-held .result ≡ b) where
   both : let a = fields-start c .args in
       (k : ℤ) → k ≡ a .key → (p : Bool)
       → p ≡ pairHeld (fields-start c) k
-      → (p && b) ≡ all (holds (decode (a .space .now)) (a .party)) (seekNames (pair (a .partition) (a .key)) (a .template .now))
+      → (p && b) ≡ all (holds (decode (a .space .now)) (a .party)) (seekNames sets (pair (a .set) (a .key)) (a .template .now))
   both k same p e =
       let start = fields-start c in
       let a = start .args in
       let names = namesIn (a .template .now) in
-      held-pair (a .space .now) (a .party) (search needs) (a .partition) k (a .key) names p b same e
+      held-pair (a .space .now) (a .party) (search needs) (a .set) k (a .key) names p b same e
       (held-fields (a .space .now) (a .party) (search needs) names b (sym told ∙ c .fields-held .ensures))
 
 add-partitions : tie.Need-add-partitions

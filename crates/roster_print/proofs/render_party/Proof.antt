@@ -4,7 +4,8 @@ use mathlib.Core.List.{List, map, _++_}
 use borrow.Author.Needs.{needs}
 use lib.ListN.{getD}
 use Rattle.numbers.proofs.Placed.{Unfinished, part-room, part-done}
-use Rattle.roster_file.specs.Printed.{bitsIn, namesText, partyText}
+use Rattle.rules.specs.Names.{bitsIn}
+use Rattle.roster_file.specs.Printed.{namesText, partyText}
 use Rattle.roster_print.specs.Answers.{named}
 use Rattle.roster_print.specs.declared.Kind.the-variants.{Partition, Key}
 use Rattle.roster_print.proofs.Texts.{begun-as, party-parts}

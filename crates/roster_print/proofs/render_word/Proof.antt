@@ -8,7 +8,8 @@ use native.Mathlib.Omega.{arith}
 use borrow.Author.Needs.{needs}
 use lib.ListN.{length}
 use Rattle.numbers.proofs.Placed.{Unfinished, part-room, part-done, finished}
-use Rattle.roster_file.specs.Printed.{bitsIn, rightText, namesText}
+use Rattle.rules.specs.Names.{bitsIn}
+use Rattle.roster_file.specs.Printed.{rightText, namesText}
 use Rattle.roster_print.specs.Answers.{named}
 use Rattle.roster_print.proofs.Texts.{begun-as, left-as, namesFrom, all-names, bit-named, bit-passed, no-names}
 use Rattle.roster_print.proofs.render_word.Statement.{statement}

@@ -14,14 +14,14 @@ all-three c = c .before .before .before .before
 shared-slice-read-writer : tie.Need-shared-slice-read-writer
 shared-slice-read-writer c = search needs
 
-shared-slice-read-read-partition : tie.Need-shared-slice-read-read-partition
-shared-slice-read-read-partition c = search needs
+shared-slice-read-read-partitions : tie.Need-shared-slice-read-read-partitions
+shared-slice-read-read-partitions c = search needs
 
 shared-slice-read-read-key : tie.Need-shared-slice-read-read-key
 shared-slice-read-read-key c = search needs
 
-shared-slice-read-take-partition : tie.Need-shared-slice-read-take-partition
-shared-slice-read-take-partition c = search needs
+shared-slice-read-take-partitions : tie.Need-shared-slice-read-take-partitions
+shared-slice-read-take-partitions c = search needs
 
 shared-slice-read-take-key : tie.Need-shared-slice-read-take-key
 shared-slice-read-take-key c = search needs
@@ -40,9 +40,9 @@ head-ok-spec =
     tie.close
     (tie.spec
     shared-slice-read-writer
-    shared-slice-read-read-partition
+    shared-slice-read-read-partitions
     shared-slice-read-read-key
-    shared-slice-read-take-partition
+    shared-slice-read-take-partitions
     shared-slice-read-take-key
     shared-slice-read-some
     shared-slice-read-few

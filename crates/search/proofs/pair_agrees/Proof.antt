@@ -1,9 +1,15 @@
 -- `pair_agrees` meets its contract: its three tests are the definition's.
-use mathlib.Core.Path.{refl}
 use borrow.Author.Needs.{needs}
-use Rattle.search.specs.Pairs.{pairAt}
+use Rattle.search.proofs.LiveRows.{pair-by}
 use Rattle.search.proofs.pair_agrees.Statement.{statement}
 use Rattle.search.proofs.pair_agrees.Tie as tie
+
+-- the places of the walk, each by its way to the one before it: the set read, and compared
+abbrev read-start : tie.After-shared-slice-known3 → tie.Start
+read-start c = c .before .before .before
+
+abbrev agreed-read : tie.After-sets-agree → tie.After-shared-slice-known3
+agreed-read c = c .before
 
 shared-slice-read-fields : tie.Need-shared-slice-read-fields
 shared-slice-read-fields c = search needs
@@ -11,14 +17,14 @@ shared-slice-read-fields c = search needs
 cast-fields : tie.Need-cast-fields
 cast-fields c = search needs
 
-mul-partitions : tie.Need-mul-partitions
-mul-partitions c = search needs
+mul-sets-agree : tie.Need-mul-sets-agree
+mul-sets-agree c = search needs
 
-shared-slice-read-partitions : tie.Need-shared-slice-read-partitions
-shared-slice-read-partitions c = search needs
+shared-slice-read-sets-agree : tie.Need-shared-slice-read-sets-agree
+shared-slice-read-sets-agree c = search needs
 
-cast-partitions : tie.Need-cast-partitions
-cast-partitions c = search needs
+sets-agree-requires : tie.Need-sets-agree-requires
+sets-agree-requires c κs = search needs
 
 add-keys : tie.Need-add-keys
 add-keys c = search needs
@@ -33,8 +39,9 @@ cast-keys : tie.Need-cast-keys
 cast-keys c = search needs
 
 returns : tie.Need-returns
-unfolding pairAt
-returns c = refl
+returns c =
+    let a = read-start (agreed-read (c .before)) .args in
+    pair-by (a .head .now) (a .pair) (a .partitions) (a .cokey) (a .count) _ (c .before .sets-agree .ensures)
 
 pub pair-agrees-spec : {M : Type 1} → statement M
 pair-agrees-spec =
@@ -42,9 +49,9 @@ pair-agrees-spec =
     (tie.spec
     shared-slice-read-fields
     cast-fields
-    mul-partitions
-    shared-slice-read-partitions
-    cast-partitions
+    mul-sets-agree
+    shared-slice-read-sets-agree
+    sets-agree-requires
     add-keys
     mul-keys
     shared-slice-read-keys

@@ -9,6 +9,7 @@ use borrow.Author.Needs.{needs}
 use borrow.Author.Tests.{not-true, not-false}
 use lib.ListN.{length, getD, drop}
 use Rattle.rules.specs.Names.{coStored}
+use Rattle.rules.specs.Partitions.{sets}
 use Rattle.rules.specs.Matching.{Entry, fieldsAgree, matches}
 use Rattle.rules.specs.Matching as matching
 use Rattle.rules.proofs.ListLaws.{all-true, All-at}
@@ -24,10 +25,10 @@ use Rattle.search.proofs.search.Statement.{statement}
 use Rattle.search.proofs.search.Tie as tie
 
 abbrev sought : Op → ℕ → ℕ → List ℕ → Entry → Bool
-sought op partition cokey template = matches (meant op) (matching.pair partition (coStored cokey)) template
+sought op set cokey template = matches sets (meant op) (matching.pair set (coStored cokey)) template
 
 -- at a row: none of the entries before it matches
-record Rows (space : List ℕ) (partition cokey : ℕ) (template : List ℕ) (pair live row : ℕ) : Type 0 where
+record Rows (space : List ℕ) (set cokey : ℕ) (template : List ℕ) (pair live row : ℕ) : Type 0 where
   isSound : sound space ≡ true
   size : length space ≡ 1809
   all : live ≡ getD space 0 0
@@ -36,8 +37,8 @@ record Rows (space : List ℕ) (partition cokey : ℕ) (template : List ℕ) (pa
   keyBound : cokey ≤ 62
   bound : row ≤ live
   older : (op : Op) → pair ≡ offset op
-      → place (sought op partition cokey template) (decode space .entries)
-      ≡ past row (place (sought op partition cokey template) (drop row (decode space .entries)))
+      → place (sought op set cokey template) (decode space .entries)
+      ≡ past row (place (sought op set cokey template) (drop row (decode space .entries)))
 
 -- at a field: those before it agree
 record Fields (space template : List ℕ) (row at i : ℕ) : Type 0 where
@@ -48,16 +49,16 @@ record Fields (space template : List ℕ) (row at i : ℕ) : Type 0 where
   rest : fieldsAgree template (entryOn space at .fields) ≡ fieldsAgree (drop i template) (drop i (entryOn space at .fields))
 
 abbrev Inv-fields : tie.InvT-fields
-Inv-fields space partition cokey template bounded pair live count row at end i₀ i = Fields space template row at i
+Inv-fields space set cokey template bounded pair live count row at end i₀ i = Fields space template row at i
 
 abbrev μ-fields : tie.MeasureT-fields
-μ-fields space partition cokey template bounded pair live count row at end i₀ i = length template - i
+μ-fields space set cokey template bounded pair live count row at end i₀ i = length template - i
 
 abbrev Inv-rows : tie.InvT-rows
-Inv-rows space partition cokey template bounded pair live count row₀ row = Rows space partition cokey template pair live row
+Inv-rows space set cokey template bounded pair live count row₀ row = Rows space set cokey template pair live row
 
 abbrev μ-rows : tie.MeasureT-rows
-μ-rows space partition cokey template bounded pair live count row₀ row = live - row
+μ-rows space set cokey template bounded pair live count row₀ row = live - row
 
 -- the places of the walk, each by its way to the one before it: the pair's offset, the count of rows, a row, its start, its
 -- pair's test, a field, and a field's test

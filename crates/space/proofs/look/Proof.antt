@@ -29,7 +29,7 @@ returns c =
     let sought = answer-sought c in
     let start = sought-start sought in
     let a = start .args in
-    let p = pair (a .partition) (a .key) in
+    let p = pair (a .partitions) (a .key) in
     ending (a .space .now) looking (a .party) p (a .fields .now) (a .result .now) (sought .seek .result) _ _ _ (c .answer-of .ensures) (sought .seek .ensures .1)
     ∙ look-call _ _ _ _ (a .result .now) _ (sought-key _ _ _ _ _ _ _ _ _ (toZ-ofZ {w = w32} (start .fits .key)) (sought .seek .ensures .0))
 

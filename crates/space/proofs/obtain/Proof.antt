@@ -42,7 +42,7 @@ held-found c = lent-found (c .before .before)
 abbrev soughtOf : tie.Start → Sought
 soughtOf s =
     let a = s .args in
-    soughtIn (a .space .now) (meant (a .op)) (a .party) (pair (a .partition) (a .key)) (a .fields .now) (length (a .result .now))
+    soughtIn (a .space .now) (meant (a .op)) (a .party) (pair (a .partitions) (a .key)) (a .fields .now) (length (a .result .now))
 
 sought-is : (c : tie.After-seek) → c .seek .result ≡ soughtOf (sought-start c)
 sought-is c = sought-key _ _ _ _ _ _ _ _ _ (toZ-ofZ {w = w32} (sought-start c .fits .key)) (c .seek .ensures .0)
@@ -52,7 +52,7 @@ module _ (c : tie.After-known-told) where
   found-is = sym (c .before .found .given .1) ∙ sought-is (found-sought c)
 
   passed : let a = sought-start (found-sought c) .args in
-      SeekPassed (a .space .now) (a .party) (pair (a .partition) (a .key)) (a .fields .now) (length (a .result .now))
+      SeekPassed (a .space .now) (a .party) (pair (a .partitions) (a .key)) (a .fields .now) (length (a .result .now))
   passed = let a = sought-start (found-sought c) .args in found-passed _ _ _ _ _ (a .result .now) _ found-is
 
   low-row : c .before .found .given .0 .0 < 128

@@ -9,6 +9,7 @@ use mir.Facts.{toZ-ofZ}
 use mir.Syntax.{w32}
 use mir.Val.{toZ, ofZ}
 use Rattle.rules.specs.Names.{keyInRange, stored}
+use Rattle.rules.specs.Partitions.{sets}
 use Rattle.rules.specs.Matching.{pair}
 use Rattle.rules.specs.State.{withEntries}
 use Rattle.rules.specs.Calls.{done, Table, firstThatApplies, putTable}
@@ -36,17 +37,17 @@ passed-verdict c = c .before .before
 abbrev passed-start : tie.After-enum-told → tie.Start
 passed-start c = verdict-start (passed-verdict c)
 
-abbrev rkey-passed : tie.After-stored-key → tie.After-enum-told
-rkey-passed c = c .before
+abbrev read-passed : tie.After-stored-key → tie.After-enum-told
+read-passed c = c .before
 
-abbrev tkey-rkey : tie.After-stored-key2 → tie.After-stored-key
-tkey-rkey c = c .before
+abbrev take-read : tie.After-stored-key2 → tie.After-stored-key
+take-read c = c .before
 
-abbrev lent-tkey : tie.After-add-row-arg → tie.After-stored-key2
-lent-tkey c = c .before
+abbrev lent-take : tie.After-add-row-arg → tie.After-stored-key2
+lent-take c = c .before
 
 abbrev lent-passed : tie.After-add-row-arg → tie.After-enum-told
-lent-passed c = rkey-passed (tkey-rkey (lent-tkey c))
+lent-passed c = read-passed (take-read (lent-take c))
 
 abbrev end-added : tie.After-slice-known2 → tie.After-add-row
 end-added c = c .before .before
@@ -55,27 +56,27 @@ end-added c = c .before .before
 tableOf : tie.Start → ℤ → ℤ → Table
 tableOf s r t =
     let a = s .args in
-    (not (sound (a .space .now)), 1) ∷ putTable (decode (a .space .now)) (a .party) (pair (a .rpart) r) (pair (a .tpart) t) (a .fields .now)
+    (not (sound (a .space .now)), 1) ∷ putTable sets (decode (a .space .now)) (a .party) (pair (a .read-partitions) r) (pair (a .take-partitions) t) (a .fields .now)
 
 whole : tie.Start → Table
-whole s = tableOf s (s .args .rkey) (s .args .tkey)
+whole s = tableOf s (s .args .read-key) (s .args .take-key)
 
 -- the keys as the machine reads them back
-rkey-kept : (s : tie.Start) → toZ w32 (ofZ w32 (s .args .rkey)) ≡ s .args .rkey
-rkey-kept s = toZ-ofZ (s .fits .rkey)
+read-kept : (s : tie.Start) → toZ w32 (ofZ w32 (s .args .read-key)) ≡ s .args .read-key
+read-kept s = toZ-ofZ (s .fits .read-key)
 
-tkey-kept : (s : tie.Start) → toZ w32 (ofZ w32 (s .args .tkey)) ≡ s .args .tkey
-tkey-kept s = toZ-ofZ (s .fits .tkey)
+take-kept : (s : tie.Start) → toZ w32 (ofZ w32 (s .args .take-key)) ≡ s .args .take-key
+take-kept s = toZ-ofZ (s .fits .take-key)
 
 verdict-is : (c : tie.After-of-put) → c .of-put .result ≡ verdict (whole (verdict-start c))
 unfolding whole tableOf
-verdict-is c = let s = verdict-start c in rw (rkey-kept s, tkey-kept s) at (c .of-put .ensures)
+verdict-is c = let s = verdict-start c in rw (read-kept s, take-kept s) at (c .of-put .ensures)
 
 no-refusal : (c : tie.After-enum-told) → firstThatApplies (whole (passed-start c)) ≡ none
 no-refusal c = verdict-passed (whole (passed-start c)) (sym (c .enum-told .given .1) ∙ verdict-is (passed-verdict c))
 
 passed : (c : tie.After-enum-told)
-    → let a = passed-start c .args in PutPassed (a .space .now) (pair (a .rpart) (a .rkey)) (pair (a .tpart) (a .tkey)) (a .fields .now)
+    → let a = passed-start c .args in PutPassed (a .space .now) (pair (a .read-partitions) (a .read-key)) (pair (a .take-partitions) (a .take-key)) (a .fields .now)
 unfolding whole tableOf
 passed c = put-passed _ (passed-start c .args .party) _ _ _ (no-refusal c)
 
@@ -98,10 +99,10 @@ enum-told : tie.Need-enum-told
 enum-told c = search needs
 
 stored-key-requires : tie.Need-stored-key-requires
-stored-key-requires c κs = ap keyInRange (rkey-kept (passed-start c)) ∙ passed c .readRange
+stored-key-requires c κs = ap keyInRange (read-kept (passed-start c)) ∙ passed c .readRange
 
 stored-key-requires-2 : tie.Need-stored-key-requires-2
-stored-key-requires-2 c κs = ap keyInRange (tkey-kept (passed-start (rkey-passed c))) ∙ passed (rkey-passed c) .takeRange
+stored-key-requires-2 c κs = ap keyInRange (take-kept (passed-start (read-passed c))) ∙ passed (read-passed c) .takeRange
 
 add-row-requires : tie.Need-add-row-requires
 add-row-requires c κs = let ok = passed (lent-passed c) in (ok .isSound, ok .room, ok .few)
@@ -116,11 +117,11 @@ returns-2 c =
     let s = passed-start (lent-passed lent) in
     let a = s .args in
     let left : ℕ → ℕ → List ℕ =
-    λ r t. encode (withEntries (decode (a .space .now) .entries ++ (entry (a .party) (a .rpart) r (a .tpart) t (a .fields .now) ∷ [])) (decode (a .space .now)))
+    λ r t. encode (withEntries (decode (a .space .now) .entries ++ (entry (a .party) (a .read-partitions) r (a .take-partitions) t (a .fields .now) ∷ [])) (decode (a .space .now)))
     in
-    let rkey = tkey-rkey (lent-tkey lent) .stored-key .ensures ∙ ap stored (rkey-kept s) in
-    let tkey = lent-tkey lent .stored-key2 .ensures ∙ ap stored (tkey-kept s) in
-    ap (λ (ws : List ℕ). exit done ws []) (end-added c .add-row .ensures ∙ ap₂ left rkey tkey)
+    let read = take-read (lent-take lent) .stored-key .ensures ∙ ap stored (read-kept s) in
+    let take = lent-take lent .stored-key2 .ensures ∙ ap stored (take-kept s) in
+    ap (λ (ws : List ℕ). exit done ws []) (end-added c .add-row .ensures ∙ ap₂ left read take)
     ∙ sym (passes-call _ _ (no-refusal (lent-passed lent)))
 
 pub put-spec : {M : Type 1} → statement M

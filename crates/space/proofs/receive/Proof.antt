@@ -32,7 +32,7 @@ returns c =
     let got = answer-obtained c in
     let start = obtained-start got in
     let a = start .args in
-    let p = pair (a .partition) (a .key) in
+    let p = pair (a .partitions) (a .key) in
     obtaining (a .space .now) receiving (a .party) p (a .fields .now) (a .result .now) (got .obtain .result) _ _ _ (c .answer-of .ensures)
     (got .obtain .ensures .1 .0) (got .obtain .ensures .1 .1)
     ∙ receive-call _ _ _ _ (a .result .now) _ (sought-key _ _ _ _ _ _ _ _ _ (toZ-ofZ {w = w32} (start .fits .key)) (got .obtain .ensures .0))

@@ -6,7 +6,6 @@ use mathlib.Core.Bool.{true, not}
 use mathlib.Core.List.{List, [], _∷_, _++_}
 use mathlib.Core.Option.{none}
 use native.Mathlib.Nat.{sub-zero}
-use native.Mathlib.Omega.{arith}
 use denote.Enum.Declared.{tagOf}
 use types.Run.{OneOf}
 use lib.IntN.{ℤ}
@@ -17,6 +16,7 @@ use mir.Syntax.{w32}
 use mir.Val.{toZ, ofZ}
 use Rattle.rules.specs.Lists.{all}
 use Rattle.rules.specs.Names.{keyInRange, coKey, stored, coStored}
+use Rattle.rules.specs.Partitions.{sets}
 use Rattle.rules.specs.Matching.{Pair, pair, storedPair, matches}
 use Rattle.rules.specs.Calls.{Table, firstThatApplies, seekTable}
 use Rattle.rules.specs.Words.{decode, sound}
@@ -94,7 +94,7 @@ lent-is l = ap (λ (n : ℕ). take n l) (sub-zero (length l)) ∙ take-length l
 -- the call's table by the space, its key and its template, how it is admitted, its pair, the place of its oldest match, and what it comes to
 tableOf : tie.Start → List ℕ → ℤ → List ℕ → Table
 tableOf s ws k t =
-    let a = s .args in (not (sound ws), 1) ∷ seekTable (decode ws) (a .party) (pair (a .partition) k) t (length (a .result .now))
+    let a = s .args in (not (sound ws), 1) ∷ seekTable sets (decode ws) (a .party) (pair (a .partitions) k) t (length (a .result .now))
 
 whole : tie.Start → Table
 whole s = tableOf s (s .args .space .now) (s .args .key) (s .args .fields .now)
@@ -103,10 +103,10 @@ admitted : tie.Start → List ℕ → ℤ → List ℕ → Admission
 admitted s ws k t = admittedBy (verdict (tableOf s ws k t)) (all plain t)
 
 abbrev pairOf : tie.Start → Pair ℤ
-pairOf s = pair (s .args .partition) (s .args .key)
+pairOf s = pair (s .args .partitions) (s .args .key)
 
 abbrev placeOf : tie.Start → Found
-placeOf s = let a = s .args in place (matches (meant (a .op)) (storedPair (pairOf s)) (a .fields .now)) (decode (a .space .now) .entries)
+placeOf s = let a = s .args in place (matches sets (meant (a .op)) (storedPair (pairOf s)) (a .fields .now)) (decode (a .space .now) .entries)
 
 abbrev soughtOf : tie.Start → Sought
 soughtOf s = let a = s .args in soughtIn (a .space .now) (meant (a .op)) (a .party) (pairOf s) (a .fields .now) (length (a .result .now))
@@ -156,7 +156,7 @@ module _ (c : tie.After-stored-co-key) where
 place-is : (c : tie.After-search) → c .search .result ≡ placeOf (passed-start (search-passed c))
 place-is c =
     let a = passed-start (search-passed c) .args in
-    let placed : List ℕ → ℕ → List ℕ → Found = λ ws k t. place (matches (meant (a .op)) (pair (a .partition) k) t) (decode ws .entries) in
+    let placed : List ℕ → ℕ → List ℕ → Found = λ ws k t. place (matches sets (meant (a .op)) (pair (a .partitions) k) t) (decode ws .entries) in
     c .search .ensures
     ∙ ap (λ (ws : List ℕ). placed ws (coStored (search-co-key c .stored-co-key .result)) (lent (a .fields .now))) (lent-is (a .space .now))
     ∙ ap₂ (placed (a .space .now)) (ap coStored (cokey-is (search-co-key c)) ∙ co-co (a .key) (passed (search-passed c) .range)) (lent-is (a .fields .now))

@@ -43,13 +43,13 @@ answered c = c .obtain .last .1 .1 .1 .1 .1 .1 .0
 
 found-is : (c : tie.After-obtain)
     → let a = sought-start c .args in
-    c .obtain .result ≡ soughtIn (a .space .now) taking (a .party) (pair (a .partition) (a .key)) (a .fields .now) (length (a .result .now))
+    c .obtain .result ≡ soughtIn (a .space .now) taking (a .party) (pair (a .partitions) (a .key)) (a .fields .now) (length (a .result .now))
 found-is c = sought-key _ _ _ _ _ _ _ _ _ (toZ-ofZ {w = w32} (sought-start c .fits .key)) (c .obtain .ensures .0)
 
 left : (c : tie.After-known-told)
     → let sought = found-sought c in
     let a = sought-start sought .args in
-    Removable (a .space .now) (a .party) (pair (a .partition) (a .key)) (a .fields .now) (a .result .now) (c .before .found .given .0 .0)
+    Removable (a .space .now) (a .party) (pair (a .partitions) (a .key)) (a .fields .now) (a .result .now) (c .before .found .given .0 .0)
     (sought .obtain .last .0) (answered sought)
 left c = let sought = found-sought c in removable _ _ _ _ _ _ _ _ _ (found-is sought) (sought .obtain .ensures .1 .0) (sought .obtain .ensures .1 .1) (c .before .found .given .1)
 
@@ -73,7 +73,7 @@ returns c =
     let unfound = answer-unfound c in
     let sought = unfound-sought unfound in
     let a = sought-start sought .args in
-    let p = pair (a .partition) (a .key) in
+    let p = pair (a .partitions) (a .key) in
     obtaining (a .space .now) taking (a .party) p (a .fields .now) (a .result .now) (sought .obtain .result) _ _ _ (c .answer-of .ensures)
     (sought .obtain .ensures .1 .0) (sought .obtain .ensures .1 .1)
     ∙ unfound-call _ _ _ _ _ (a .result .now) _ (found-is sought) (unfound .match .keys2)

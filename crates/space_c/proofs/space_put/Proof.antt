@@ -24,8 +24,8 @@ back-put c = c .before .before
 put-is : (c : tie.After-put)
     → let a = put-start c .args in
     exit (meant (c .put .result)) (c .put .last .0) []
-    ≡ call (a .space .now) (put (a .party) (pair (a .rpart) (a .rkey)) (pair (a .tpart) (a .tkey)) (a .fields .now))
-put-is c = let fits = put-start c .fits in rw (toZ-ofZ {w = w32} (fits .rkey), toZ-ofZ {w = w32} (fits .tkey)) at (c .put .ensures)
+    ≡ call (a .space .now) (put (a .party) (pair (a .read-partitions) (a .read-key)) (pair (a .take-partitions) (a .take-key)) (a .fields .now))
+put-is c = let fits = put-start c .fits in rw (toZ-ofZ {w = w32} (fits .read-key), toZ-ofZ {w = w32} (fits .take-key)) at (c .put .ensures)
 
 put-requires : tie.Need-put-requires
 put-requires c κs = search needs

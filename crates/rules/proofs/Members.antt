@@ -1,16 +1,19 @@
--- The elements of lists: of two in a row, of one mapped, of what a test keeps, and of the numbers from one on.
+-- The elements of lists: of two in a row, of one mapped, of what a test keeps, of the numbers from one on, and what holds of them.
 use Prim.Native.Nat.{ℕ, zero, suc, _+_, _≤_, _<_}
-use mathlib.Core.Path.{_≡_, refl, sym, ap, _∙_}
+use mathlib.Core.Path.{_≡_, refl, sym, ap, _∙_, subst}
 use mathlib.Core.Logic.{_⊎_, inl, inr}
-use mathlib.Core.Bool.{Bool, true, false}
+use mathlib.Core.Bool.{Bool, true, false, _||_, false≢true}
 use mathlib.Core.List.{List, [], _∷_, _++_, map}
 use native.Mathlib.Decide.{ℕ-discrete}
 use native.Mathlib.Nat.{le-refl}
 use native.Mathlib.Omega.{arith}
 use lib.ListN.{length}
-use Rattle.rules.specs.Lists.{keep, All, In}
+use Rattle.rules.specs.Lists.{any, keep, All, Some, In, from}
 use Rattle.rules.proofs.ListLaws.{bool}
-use Rattle.roster_file.specs.Printed.{from}
+
+or-true : (b : Bool) → (b || true) ≡ true
+or-true true = refl
+or-true false = refl
 
 module _ {A : Type 0} where
   pub in-left : (x : A) (l r : List A) → In x l → In x (l ++ r)
@@ -59,6 +62,29 @@ module _ {A : Type 0} where
   pub All-in : (P : A → Type 0) (l : List A) → ((x : A) → In x l → P x) → All P l
   All-in P [] f = tt
   All-in P (x ∷ l) f = (f x (inl refl), All-in P l (λ y i. f y (inr i)))
+
+  pub All-at-in : (P : A → Type 0) (x : A) (l : List A) → All P l → In x l → P x
+  All-at-in P x [] h i = absurd i
+  All-at-in P x (y ∷ l) h (inl e) = subst P e (h .0)
+  All-at-in P x (y ∷ l) h (inr i) = All-at-in P x l (h .1) i
+
+  pub some-in : (P : A → Type 0) (x : A) (l : List A) → In x l → P x → Some P l
+  some-in P x [] i h = i
+  some-in P x (y ∷ l) (inl e) h = inl (subst P (sym e) h)
+  some-in P x (y ∷ l) (inr i) h = inr (some-in P x l i h)
+
+  pub any-in : (p : A → Bool) (l : List A) → any p l ≡ true → (x : A) × (In x l × (p x ≡ true))
+  any-in p [] h = absurd (false≢true h)
+  any-in p (y ∷ l) h = go (bool (p y)) (any-in p l)
+    where
+      go : (p y ≡ true) ⊎ (p y ≡ false) → (any p l ≡ true → (x : A) × (In x l × (p x ≡ true))) → (x : A) × (In x (y ∷ l) × (p x ≡ true))
+      go (inl t) r = (y, (inl refl, t))
+      go (inr t) r = let k = r (rw t at h) in (k .0, (inr (k .1 .0), k .1 .1))
+
+  pub in-any : (p : A → Bool) (x : A) (l : List A) → In x l → p x ≡ true → any p l ≡ true
+  in-any p x [] i h = absurd i
+  in-any p x (y ∷ l) (inl e) h = rw (ap p e ∙ h) refl
+  in-any p x (y ∷ l) (inr i) h = rw (in-any p x l i h) (or-true (p y))
 
 module _ {A B : Type 0} (f : A → B) where
   pub in-map : (x : A) (l : List A) → In x l → In (f x) (map f l)
