@@ -1,5 +1,6 @@
 /* Many small workloads, each one call, for bench/compare: every count of live entries, every length and form of template, wherever the
-   match is, and each refusal. Prints or dumps a line for each: its name, what the call answers, and its instructions.
+   match is, each refusal, and sets of several partitions. Prints or dumps a line for each: its name, what the call answers, and its
+   instructions. Compiled with the header of the library that is counted.
 
    On a board, under `-icount shift=10`, an instruction takes 1,024 ns of the emulated clock and a tick of SysTick 40, so that the
    ticks of a single call give its instructions exactly. On the desk callgrind dumps its count under the workload's name. */
@@ -19,23 +20,33 @@ enum { WORDS = 1809, ROW = 14 };
 
 /* A library from before look and receive has a read, which did what a receive does. Each of the two is compared with it. */
 #ifdef GRID_READ
-uint32_t space_read(uint64_t *, uint64_t, uint32_t, uint32_t, int32_t, const uint64_t *, uint64_t, uint64_t *, uint64_t);
 #define space_look space_read
 #define space_receive space_read
 #endif
 
+/* A library from before sets has the number of a partition in a pair, and in a row. */
+#ifdef GRID_NUMBERS
+typedef uint32_t pair_set;
+#define ONE(c) (c)
+#define OUT_OF_RANGE 64
+#else
+typedef uint64_t pair_set;
+#define ONE(c) (1ull << (c))
+#define OUT_OF_RANGE 0
+#endif
+
 static uint64_t space[WORDS], kept[WORDS], result[8], fields[8];
-static struct { enum { LOOK, RECEIVE, TAKE, PUT, NOTHING } kind; uint32_t party, partition, count, room; int32_t key; } call;
+static struct { enum { LOOK, RECEIVE, TAKE, PUT, NOTHING } kind; uint32_t party, count, room; pair_set set; int32_t key; } call;
 static volatile uint32_t answer;
 
 /* Called by their addresses, so that the way to a call is as long in every library. (The cast: to a look the space is const.) */
-typedef uint32_t seek(uint64_t *, uint64_t, uint32_t, uint32_t, int32_t, const uint64_t *, uint64_t, uint64_t *, uint64_t);
+typedef uint32_t seek(uint64_t *, uint64_t, uint32_t, pair_set, int32_t, const uint64_t *, uint64_t, uint64_t *, uint64_t);
 static seek *const seeks[] = {(seek *)space_look, space_receive, space_take};
 
 APART void measured(void)
 {
-    if (call.kind <= TAKE) answer = seeks[call.kind](space, WORDS, call.party, call.partition, call.key, fields, call.count, result, call.room);
-    else if (call.kind == PUT) answer = space_put(space, WORDS, call.party, call.partition, call.key, call.partition, call.key, fields, call.count);
+    if (call.kind <= TAKE) answer = seeks[call.kind](space, WORDS, call.party, call.set, call.key, fields, call.count, result, call.room);
+    else if (call.kind == PUT) answer = space_put(space, WORDS, call.party, call.set, call.key, call.set, call.key, fields, call.count);
 }
 
 /* Field i of the entry in row r: messages, of which only the last differs from row to row; with names the first two are a partition
@@ -48,14 +59,14 @@ static uint64_t field(uint32_t r, uint32_t i, uint32_t n, int names)
     return i + 1;
 }
 
-/* Everybody holds partitions 0 to 7 and keys -31 to -24 and 0; party p writes 16 rows, under the defaults. */
+/* Everybody holds partitions 0 to 7 and 50 and keys -31 to -24 and 0; party p writes 16 rows, under the defaults. */
 static void prepare(uint32_t live, uint32_t n, int names)
 {
     memset(kept, 0, sizeof kept);
     kept[0] = live;
-    for (uint32_t p = 0; p < 8; p++) kept[1 + p] = 255, kept[9 + p] = 255 | 1ull << 31;
+    for (uint32_t p = 0; p < 8; p++) kept[1 + p] = 255 | 1ull << 50, kept[9 + p] = 255 | 1ull << 31;
     for (uint32_t r = 0; r < live; r++) {
-        uint64_t row[ROW] = {r / 16, 0, 31, 0, 31, n};
+        uint64_t row[ROW] = {r / 16, ONE(0), 31, ONE(0), 31, n};
         for (uint32_t i = 0; i < n; i++) row[6 + i] = field(r, i, n, names);
         memcpy(kept + 17 + ROW * r, row, sizeof row);
     }
@@ -129,10 +140,10 @@ static void templates(uint32_t live, uint32_t n, int names)
 static void misses(uint32_t live, uint32_t n)
 {
     for (uint32_t i = 0; i < n; i++) fields[i] = i % 2 ? ANY : i + 1;
-    call.partition = 3, called(live, n, "another partition"), call.partition = 0;
+    call.set = ONE(3), called(live, n, "another partition"), call.set = ONE(0);
     call.key = -31, called(live, n, "another key"), call.key = 0;
-    call.partition = 64, called(live, n, "refused by 4");
-    call.partition = 40, called(live, n, "refused by 7"), call.partition = 0;
+    call.set = OUT_OF_RANGE, called(live, n, "refused by 4");
+    call.set = ONE(40), called(live, n, "refused by 7"), call.set = ONE(0);
     call.room = n - 1, called(live, n, "refused by 6"), call.room = 8;
     call.party = 8, called(live, n, "refused by 2"), call.party = 0;
     fields[n - 1] = PARTITION(40), called(live, n, "refused by 7 for a field");
@@ -151,6 +162,37 @@ static void bounds(uint32_t live, uint32_t n)
     }
 }
 
+#ifndef GRID_NUMBERS
+/* The rows get {1, 2, 3}, and one of them, or none, a fourth partition. */
+static void prepare_sets(uint32_t live, uint32_t n, uint32_t r, uint64_t fourth)
+{
+    prepare(live, n, 0);
+    for (uint32_t i = 0; i < live; i++) kept[17 + ROW * i + 1] = kept[17 + ROW * i + 3] = 14 | (i == r ? fourth : 0);
+}
+
+/* Sets of several partitions, with the fields exact and as wildcards. */
+static void sets(uint32_t live, uint32_t n)
+{
+    const uint64_t low = ONE(4) | ONE(5) | ONE(6), both = ONE(5) | ONE(6) | ONE(50);
+    for (uint32_t form = EXACT; form <= WILD; form++) {
+        char what[60];
+        for (uint32_t place = 0; place < 3 && place < live; place++) {
+            uint32_t r = place == 0 ? 0 : place == 1 ? live / 2 : live - 1;
+            for (uint32_t i = 0; i < n; i++) fields[i] = form == WILD ? ANY : field(r, i, n, 0);
+            snprintf(what, sizeof what, "sets: one shared below 32, %s, row %u", forms[form], (unsigned)r);
+            prepare_sets(live, n, r, ONE(4)), call.set = low, called(live, n, what);
+            snprintf(what, sizeof what, "sets: one shared above 31, %s, row %u", forms[form], (unsigned)r);
+            prepare_sets(live, n, r, ONE(50)), call.set = both, called(live, n, what);
+            snprintf(what, sizeof what, "sets: all share two, %s, row %u", forms[form], (unsigned)r);
+            prepare_sets(live, n, r, 0), call.set = ONE(1) | ONE(2) | ONE(50), called(live, n, what);
+        }
+        snprintf(what, sizeof what, "sets: none shared, %s", forms[form]);
+        call.set = both, called(live, n, what);
+    }
+    call.set = ONE(1) | ONE(40), called(live, n, "sets: refused by 7 for one of two"), call.set = ONE(0);
+}
+#endif
+
 static void puts_(uint32_t live, uint32_t n)
 {
     call.party = 7;
@@ -158,6 +200,10 @@ static void puts_(uint32_t live, uint32_t n)
     called(live, n, "messages");
     fields[0] = PARTITION(5), called(live, n, "a name");
     fields[0] = ANY, called(live, n, "a bad word");
+#ifndef GRID_NUMBERS
+    fields[0] = 0, call.set = ONE(1) | ONE(2) | ONE(50), called(live, n, "sets: of three");
+    call.set = ONE(1) | ONE(40), called(live, n, "sets: refused by 7 for one of two");
+#endif
 }
 
 int main(void)
@@ -168,13 +214,16 @@ int main(void)
         for (uint32_t l = 0; l < 6; l++)
             for (uint32_t c = 0; c < 6; c++) {
                 uint32_t live = lives[l], n = counts[c];
-                call.kind = kind, call.party = call.partition = 0, call.key = 0, call.count = n, call.room = 8;
+                call.kind = kind, call.party = 0, call.set = ONE(0), call.key = 0, call.count = n, call.room = 8;
                 prepare(live, kind == PUT ? 8 : n, 0);
                 if (kind == PUT) { puts_(live, n); continue; }
                 templates(live, n, 0), misses(live, n);
                 if (live > 0) bounds(live, n);
                 prepare(live, n, 1);
                 if (n > 1) templates(live, n, 1);
+#ifndef GRID_NUMBERS
+                if (live > 0) sets(live, n);
+#endif
             }
     return 0;
 }

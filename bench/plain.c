@@ -1,6 +1,6 @@
 /* The shared space in plain C, made as fast as we could: what the proved library is measured against.
    The space is 1809 words: the count of live rows, the partitions and then the keys that each of the eight parties holds, and
-   128 rows of 14 words: the writer, the read pair, the take pair (a partition and a key's place each), the field count and
+   128 rows of 14 words: the writer, the read pair, the take pair (a set of partitions and a key's place each), the field count and
    eight fields. Every call goes over every word of it (scan); for a look, receive or take the same pass finds the entry, unless
    the template has a bound: then another pass does (search).
    GNU C for little-endian machines. It keeps nothing outside the slices that it is lent. */
@@ -19,7 +19,7 @@
 enum { WORDS = 1809, FIRST = 17, ROW = 14, ROWS = 128, MOST = 16, FIELDS = 8 };
 enum { READ = 1, TAKE = 3, COUNT = 5, FIELD = 6 }; /* where in a row its pairs, its count and its fields are */
 #define WILDCARD (3ull << 32)
-#define NEVER UINT32_MAX /* neither a partition nor a writer */
+#define NEVER UINT32_MAX /* no writer, and no place of a name */
 #define BOUNDED 1u /* said of a template; it's no refusal */
 #define NOINLINE static __attribute__((noinline))
 #define INLINE static inline __attribute__((always_inline))
@@ -30,34 +30,45 @@ INLINE uint32_t high(uint64_t w) { return (uint32_t)(w >> 32); }
 /* 1. What differs between the machines. */
 
 /* Hints that emit nothing. HIDE: forget what x is, so don't hoist a load by it or merge a pointer's steps (they are part of
-   ldmia and stmia). HERE: all of x is in registers by now, so load both halves at once (ldrd, ldmia) and keep the order. */
+   ldmia and stmia). HERE: all of x is in registers by now, so load both halves at once (ldrd, ldmia) and keep the order. ASIDE: of
+   x only comparisons are wanted, so keep it in a register of the upper eight (Cortex-M0+). */
 #if defined __thumb__ && !defined __thumb2__
 #define HIDE(x) __asm__("" : "+l"(x))
 #define HIDE_NOW(x) __asm__ volatile("" : "+l"(x)) /* in each round of a loop */
 #define HERE(x) __asm__("" : : "l"(x))
+#define ASIDE(x) __asm__("" : "+h"(x))
 #else
 #define HIDE(x) __asm__("" : "+r"(x))
 #define HIDE_NOW(x) HIDE(x)
 #define HERE(x) __asm__("" : : "r"(x))
+#define ASIDE(x) (void)0
 #endif
 
-/* How scan() loads a head word and tests partitions and writer. A 64-bit machine does it with whole words. A 32-bit one loads
-   the lower half, and gathers whatever has to be 0 in `highs`: where that isn't 0 sound_rights() decides. */
+/* How scan() loads a head word and tests sets and writer. A 64-bit machine does it with whole words. A 32-bit one loads the lower
+   half, and gathers whatever has to be 0 in `highs`: where that isn't 0 sound_rights() decides. The upper half of a set is looked at
+   only where the lower one is 0, and in a search where the template's set has something there. */
 #if UINTPTR_MAX > UINT32_MAX
 typedef uint64_t part;
 #define LOAD(part, w) (part = (w))
-#define TEST_PARTITIONS(a, b) do { partitions |= (a); HERE(partitions); partitions |= (b); } while (0)
+#define UPPER(w) 0
+#define TEST_READ_SET(set) do if (!(set)) return 0; while (0)
+#define TEST_TAKE_SET(other, set) do if (!(set)) return 0; while (0)
 #define TEST_WRITER(w) do if ((w) > 7) return 0; while (0)
 #define CHARGE(w) charge[w]++
 #else
 typedef uint32_t part;
-#define TEST_PARTITIONS(a, b) do { highs |= ((a) | (b)) >> 6; HERE(highs); } while (0)
+#define UPPER(w) high(w)
+#define TEST_SETS(doubtful) do if (__builtin_expect(doubtful, 0) && !sound_sets(row)) return 0; while (0)
 #define TEST_WRITER(w) (highs |= (w) >> 3)
 #ifdef __thumb2__
 #define LOAD(part, w) do { uint32_t h = high(w); part = low(w); BOTH_HERE(part, h); highs |= h; HERE(highs); } while (0)
 #define BOTH_HERE(x, y) __asm__("" : : "r"(x), "r"(y))
+#define TEST_READ_SET(set) (void)0
+#define TEST_TAKE_SET(other, set) TEST_SETS((uint64_t)(other) * (set) == 0) /* both sets at once */
 #else
 #define LOAD(part, w) do { part = low(w); highs |= high(w); HERE(highs); } while (0)
+#define TEST_READ_SET(set) TEST_SETS(!(set))
+#define TEST_TAKE_SET(other, set) TEST_SETS(!(set))
 #endif
 /* The address of the byte is charge + w in the load and again in the store, not added up before. */
 #define CHARGE(w) do { uint8_t *p = charge; HIDE_NOW(p); uint32_t n = p[w] + 1u; HIDE_NOW(p); p[w] = (uint8_t)n; } while (0)
@@ -171,7 +182,8 @@ INLINE void copy(uint64_t *restrict to, const uint64_t *restrict from, uint32_t 
    wildcard. */
 struct template {
     const uint64_t *space, *fields, *found;
-    uint32_t count, partition, key; /* the co-key's place */
+    uint64_t set;
+    uint32_t count, key; /* the co-key's place */
     uint32_t bound; /* a field that is one, if any is */
 #ifdef __SSE2__
     union { uint64_t word[FIELDS]; __m128i pair[FIELDS / 2]; } field, wild;
@@ -263,7 +275,7 @@ NOINLINE int sound_roster(const uint64_t *s)
 /* Of a row where `highs` isn't 0: is it because of rights among its fields? Its lower halves but those are tested already. */
 NOINLINE int sound_rights(const uint64_t *row)
 {
-    if (row[0] > 7 || row[READ] > 63 || row[TAKE] > 63 || high(row[READ + 1]) | high(row[TAKE + 1]) | high(row[COUNT])) return 0;
+    if (row[0] > 7 || high(row[READ + 1]) | high(row[TAKE + 1]) | high(row[COUNT])) return 0;
     uint32_t count = low(row[COUNT]);
     const uint64_t *f = row + FIELD;
 #pragma GCC unroll 4
@@ -273,6 +285,13 @@ NOINLINE int sound_rights(const uint64_t *row)
         if (!sound_field(f[i + 1]) || (high(f[i + 1]) && i + 1 >= count)) return 0;
     }
     return 1;
+}
+
+/* Of a row with a set whose lower half is 0. */
+INLINE int sound_sets(const uint64_t *row)
+{
+    HIDE(row);
+    return row[READ] && row[TAKE];
 }
 
 INLINE int sound_keys(const uint64_t *row)
@@ -299,24 +318,26 @@ INLINE int sound_rest(const uint64_t *row, part count)
 }
 
 /* Every clause of soundness. The charges are bytes, each writer's rows. With a template (then at is READ or TAKE, else 0) it
-   also finds the first row that matches. */
-INLINE int scan(const uint64_t *s, uint64_t *charges, struct template *t, int at)
+   also finds the first row that matches; in_upper says whether the template's set has partitions in its upper half. */
+INLINE int scan(const uint64_t *s, uint64_t *charges, struct template *t, int at, int in_upper)
 {
     if (s[0] > ROWS || !sound_roster(s)) return 0;
     *charges = 0;
     uint8_t *charge = (uint8_t *)charges;
-    part want = at ? t->partition : 0, partitions = 0;
+    part want = at ? (part)t->set : 0, want_upper = at && in_upper ? (part)UPPER(t->set) : 0;
     const uint64_t *row = s + FIRST, *live = row + ROW * low(s[0]);
     for (; row != live; row += ROW) {
-        part writer, partition, key, other, count;
+        part writer, set, key, other, count;
+        if (at) ASIDE(live); /* so that the template's set has one of the others */
         uint32_t highs = high(row[6]) | high(row[7]) | high(row[8]) | high(row[9]) | high(row[10]) | high(row[11])
             | high(row[12]) | high(row[13]);
         HERE(highs);
-        LOAD(partition, row[READ]);
+        set = (part)row[READ];
+        TEST_READ_SET(set);
         LOAD(key, row[READ + 1]);
-        LOAD(other, row[TAKE]);
-        TEST_PARTITIONS(partition, other);
-        if (at == TAKE) partition = other;
+        other = (part)row[TAKE];
+        TEST_TAKE_SET(set, other);
+        if (at == TAKE) set = other;
         LOAD(other, row[TAKE + 1]);
         if ((key | other) > 62 && !sound_keys(row)) return 0; /* two good keys may make a 63 */
         LOAD(count, row[COUNT]);
@@ -329,19 +350,21 @@ INLINE int scan(const uint64_t *s, uint64_t *charges, struct template *t, int at
             writer = (part)row[0];
         }
         CHARGE(writer);
-        if (at && partition == want && matches(t, row, at)) {
+        if (at && ((set & want) || (in_upper && (UPPER(row[at]) & want_upper))) && matches(t, row, at)) {
             t->found = row;
-            want = NEVER;
+            want = want_upper = 0;
         }
     }
     if (at) s = t->space; /* rather than keep it in a register */
-    if (partitions > 63 || !clear(row, ROWS - low(s[0]))) return 0;
+    if (!clear(row, ROWS - low(s[0]))) return 0;
     return !((*charges + 0x0101010101010101u * (127 - MOST)) & 0x8080808080808080u); /* at most 128 each, so no byte carries */
 }
 
-NOINLINE int sound(const uint64_t *s, uint64_t *charges) { return scan(s, charges, 0, 0); }
-NOINLINE int sound_read(struct template *t) { uint64_t charges; return scan(t->space, &charges, t, READ); }
-NOINLINE int sound_take(struct template *t) { uint64_t charges; return scan(t->space, &charges, t, TAKE); }
+NOINLINE int sound(const uint64_t *s, uint64_t *charges) { return scan(s, charges, 0, 0, 0); }
+NOINLINE int sound_read(struct template *t) { uint64_t charges; return scan(t->space, &charges, t, READ, 0); }
+NOINLINE int sound_take(struct template *t) { uint64_t charges; return scan(t->space, &charges, t, TAKE, 0); }
+NOINLINE int sound_read_upper(struct template *t) { uint64_t charges; return scan(t->space, &charges, t, READ, 1); }
+NOINLINE int sound_take_upper(struct template *t) { uint64_t charges; return scan(t->space, &charges, t, TAKE, 1); }
 
 /* 3. Bounds: at least, at most. */
 
@@ -370,18 +393,18 @@ NOINLINE void search(struct template *t, int at)
         if (at_least(bound)) while (row != live && low(row[place]) < low(bound)) row += ROW;
         else while (row != live && low(row[place]) > low(bound)) row += ROW;
         if (row == live) return;
-        if (low(row[at]) == t->partition && matches(t, row, at) && within(t->fields, t->count, row + FIELD)) break;
+        if (row[at] & t->set && matches(t, row, at) && within(t->fields, t->count, row + FIELD)) break;
     }
     t->found = row;
 }
 
 /* 4. The calls. */
 
-INLINE int bad_pair(uint32_t partition, int32_t key) { return partition > 63 || (uint32_t)key + 31 > 62; }
+INLINE int bad_pair(uint64_t set, int32_t key) { return !set || (uint32_t)key + 31 > 62; }
 
-INLINE int pair_held(const uint64_t *s, uint32_t party, uint32_t partition, int32_t key)
+INLINE int pair_held(const uint64_t *s, uint32_t party, uint64_t set, int32_t key)
 {
-    return BIT(s[1 + party], partition) && BIT(s[9 + party], (uint32_t)(key + 31));
+    return !(set & ~s[1 + party]) && BIT(s[9 + party], (uint32_t)(key + 31));
 }
 
 NOINLINE int rights_held(const uint64_t *s, uint32_t party, const uint64_t *f, uint32_t n)
@@ -419,27 +442,27 @@ uint32_t plain_open(uint64_t *restrict s, uint64_t len, const uint64_t *restrict
     return 0;
 }
 
-uint32_t plain_put(uint64_t *restrict s, uint64_t len, uint32_t party, uint32_t read_partition, int32_t read_key,
-                   uint32_t take_partition, int32_t take_key, const uint64_t *restrict f, uint64_t n)
+uint32_t plain_put(uint64_t *restrict s, uint64_t len, uint32_t party, uint64_t read_set, int32_t read_key,
+                   uint64_t take_set, int32_t take_key, const uint64_t *restrict f, uint64_t n)
 {
     uint64_t charges;
     if (len != WORDS || !sound(s, &charges)) return 101;
     if (party > 7) return 102;
     if (n < 1 || n > FIELDS) return 103;
-    if (bad_pair(read_partition, read_key) || bad_pair(take_partition, take_key)) return 104;
+    if (bad_pair(read_set, read_key) || bad_pair(take_set, take_key)) return 104;
     uint32_t count = low(n), kinds = 0;
     for (uint32_t i = 0; i < count; i++) {
         kinds |= high(f[i]);
         if (!sound_field(f[i])) return 105;
     }
-    if (!pair_held(s, party, read_partition, read_key) || !pair_held(s, party, take_partition, take_key)) return 107;
+    if (!pair_held(s, party, read_set, read_key) || !pair_held(s, party, take_set, take_key)) return 107;
     if (kinds && !rights_held(s, party, f, count)) return 107;
     if (((uint8_t *)&charges)[party] >= MOST) return 108; /* always with 128 rows */
     uint64_t *row = s + FIRST + ROW * low(s[0]); /* all 0 as yet */
     row[0] = party;
-    row[READ] = read_partition;
+    row[READ] = read_set;
     row[READ + 1] = (uint32_t)(read_key + 31);
-    row[TAKE] = take_partition;
+    row[TAKE] = take_set;
     row[TAKE + 1] = (uint32_t)(take_key + 31);
     row[COUNT] = count;
     copy(row + FIELD, f, count);
@@ -448,17 +471,17 @@ uint32_t plain_put(uint64_t *restrict s, uint64_t len, uint32_t party, uint32_t 
 }
 
 /* Makes the template ready; the answer is the refusal but for 101, or 0, or BOUNDED. */
-INLINE uint32_t prepare(struct template *t, const uint64_t *s, uint32_t party, uint32_t partition, int32_t key,
+INLINE uint32_t prepare(struct template *t, const uint64_t *s, uint32_t party, uint64_t set, int32_t key,
                         const uint64_t *f, uint64_t n, uint64_t room, int at)
 {
     if (party > 7) return 102;
     if (n < 1 || n > FIELDS) return 103;
-    if (bad_pair(partition, key)) return 104;
+    if (bad_pair(set, key)) return 104;
     t->space = s;
     t->fields = f;
     t->found = 0;
     t->count = low(n);
-    t->partition = partition;
+    t->set = set;
     t->key = (uint32_t)(31 - key);
     start(t, at);
     uint32_t kinds = 0;
@@ -477,7 +500,7 @@ INLINE uint32_t prepare(struct template *t, const uint64_t *s, uint32_t party, u
     }
     finish(t);
     if (room < n) return 106;
-    if (!pair_held(s, party, partition, key)) return 107;
+    if (!pair_held(s, party, set, key)) return 107;
     if (!kinds) return 0;
     if (kinds != 4 && !rights_held(s, party, f, low(n))) return 107; /* not for bounds alone */
     return kinds >= 4 ? BOUNDED : 0;
@@ -493,14 +516,15 @@ NOINLINE uint32_t find_bounded(struct template *t, int at)
 }
 
 /* Looks for the entry; the answer is the refusal, or 0. */
-INLINE uint32_t find(struct template *t, const uint64_t *s, uint64_t len, uint32_t party, uint32_t partition, int32_t key,
+INLINE uint32_t find(struct template *t, const uint64_t *s, uint64_t len, uint32_t party, uint64_t set, int32_t key,
                      const uint64_t *f, uint64_t n, uint64_t room, int at)
 {
     uint64_t charges;
     if (len != WORDS) return 101;
-    uint32_t refusal = prepare(t, s, party, partition, key, f, n, room, at);
+    uint32_t refusal = prepare(t, s, party, set, key, f, n, room, at);
     if (refusal == BOUNDED) return find_bounded(t, at);
     if (refusal) return sound(s, &charges) ? refusal : 101;
+    if (UPPER(set)) return (at == READ ? sound_read_upper(t) : sound_take_upper(t)) ? 0 : 101;
     return (at == READ ? sound_read(t) : sound_take(t)) ? 0 : 101;
 }
 
@@ -525,11 +549,11 @@ INLINE void remove_row(uint64_t *s, uint64_t *row)
 }
 
 /* A look, receive or take, by the pair that it goes by and by whether it gives names. A look writes nothing to s. */
-INLINE uint32_t seek(uint64_t *restrict s, uint64_t len, uint32_t party, uint32_t partition, int32_t key,
+INLINE uint32_t seek(uint64_t *restrict s, uint64_t len, uint32_t party, uint64_t set, int32_t key,
                      const uint64_t *restrict f, uint64_t n, uint64_t *restrict result, uint64_t room, int at, int gives)
 {
     struct template t;
-    uint32_t refusal = find(&t, s, len, party, partition, key, f, n, room, at);
+    uint32_t refusal = find(&t, s, len, party, set, key, f, n, room, at);
     if (refusal || !t.found) return refusal;
     if (gives) hand_over(&t, s, party, result);
     else copy(result, t.found + FIELD, t.count);
@@ -537,22 +561,22 @@ INLINE uint32_t seek(uint64_t *restrict s, uint64_t len, uint32_t party, uint32_
     return t.count;
 }
 
-uint32_t plain_look(const uint64_t *restrict s, uint64_t len, uint32_t party, uint32_t partition, int32_t key,
+uint32_t plain_look(const uint64_t *restrict s, uint64_t len, uint32_t party, uint64_t set, int32_t key,
                     const uint64_t *restrict f, uint64_t n, uint64_t *restrict result, uint64_t room)
 {
-    return seek((uint64_t *)s, len, party, partition, key, f, n, result, room, READ, 0);
+    return seek((uint64_t *)s, len, party, set, key, f, n, result, room, READ, 0);
 }
 
-uint32_t plain_receive(uint64_t *restrict s, uint64_t len, uint32_t party, uint32_t partition, int32_t key,
+uint32_t plain_receive(uint64_t *restrict s, uint64_t len, uint32_t party, uint64_t set, int32_t key,
                        const uint64_t *restrict f, uint64_t n, uint64_t *restrict result, uint64_t room)
 {
-    return seek(s, len, party, partition, key, f, n, result, room, READ, 1);
+    return seek(s, len, party, set, key, f, n, result, room, READ, 1);
 }
 
-uint32_t plain_take(uint64_t *restrict s, uint64_t len, uint32_t party, uint32_t partition, int32_t key,
+uint32_t plain_take(uint64_t *restrict s, uint64_t len, uint32_t party, uint64_t set, int32_t key,
                     const uint64_t *restrict f, uint64_t n, uint64_t *restrict result, uint64_t room)
 {
-    return seek(s, len, party, partition, key, f, n, result, room, TAKE, 1);
+    return seek(s, len, party, set, key, f, n, result, room, TAKE, 1);
 }
 
 /* 5. A roster from a file. A line that gives a right has one digit, p or k and at most two digits more, with a minus at most. So

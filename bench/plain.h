@@ -1,5 +1,6 @@
 /* The shared space's calls in plain C, under names of their own: what the proved library is measured against.
-   A lent slice is a pointer, never null and 8-aligned, and a length in words (the file: any alignment, and bytes); no two overlap.
+   The partitions of a pair are a set, a bit for each. A lent slice is a pointer, never null and 8-aligned, and a length in words
+   (the file: any alignment, and bytes); no two overlap.
    An answer: 0 is "done" of open, put and the reading of a roster and "none" of look, receive and take; 1 to 8 is "found"
    with that count; 100 plus its number is a refusal. A refused call and a "none" write nothing. */
 #ifndef PLAIN_H
@@ -8,13 +9,13 @@
 
 uint32_t plain_open(uint64_t *space, uint64_t space_len, const uint64_t *roster, uint64_t roster_len);
 uint32_t plain_put(uint64_t *space, uint64_t space_len, uint32_t party,
-                   uint32_t read_partition, int32_t read_key, uint32_t take_partition, int32_t take_key,
+                   uint64_t read_partitions, int32_t read_key, uint64_t take_partitions, int32_t take_key,
                    const uint64_t *fields, uint64_t field_count);
-uint32_t plain_look(const uint64_t *space, uint64_t space_len, uint32_t party, uint32_t partition, int32_t key,
+uint32_t plain_look(const uint64_t *space, uint64_t space_len, uint32_t party, uint64_t partitions, int32_t key,
                     const uint64_t *fields, uint64_t field_count, uint64_t *result, uint64_t result_len);
-uint32_t plain_receive(uint64_t *space, uint64_t space_len, uint32_t party, uint32_t partition, int32_t key,
+uint32_t plain_receive(uint64_t *space, uint64_t space_len, uint32_t party, uint64_t partitions, int32_t key,
                        const uint64_t *fields, uint64_t field_count, uint64_t *result, uint64_t result_len);
-uint32_t plain_take(uint64_t *space, uint64_t space_len, uint32_t party, uint32_t partition, int32_t key,
+uint32_t plain_take(uint64_t *space, uint64_t space_len, uint32_t party, uint64_t partitions, int32_t key,
                     const uint64_t *fields, uint64_t field_count, uint64_t *result, uint64_t result_len);
 uint32_t plain_read_roster(const uint8_t *file, uint64_t file_len, uint64_t *roster, uint64_t roster_len);
 #endif

@@ -17,6 +17,7 @@
 #define ANY (3ull << 32)
 #define AT_LEAST (4ull << 32)
 #define AT_MOST (5ull << 32)
+#define SET(c) (1ull << (c))
 enum { WORDS = 1809, ROWS = 128, ROW = 14, PAINT = 0xA5 };
 #define APART __attribute__((noinline, noclone))
 
@@ -28,27 +29,39 @@ static const uint64_t last[8] = {1, 2, 3, 4, 5, 6, 7, 227}, entry[8] = {1, 2, 3,
 static const uint64_t least[8] = {ANY, ANY, ANY, ANY, ANY, ANY, ANY, AT_LEAST + 227};
 static const uint64_t most[8] = {ANY, ANY, ANY, ANY, ANY, ANY, ANY, AT_MOST + 100};
 
+/* The rows of the workloads with sets have OF_ROWS, but the last has partitions 4 and 50 besides: by each of these SHARING and UPPER
+   match it alone. */
+#define OF_ROWS (SET(1) | SET(2) | SET(3))
+#define SHARING (SET(4) | SET(5) | SET(6))
+#define UPPER (SET(5) | SET(6) | SET(50))
+#define DISJOINT (SET(5) | SET(6) | SET(51))
+
 static uint32_t nothing(void) { return 0; }
-static uint32_t put_take(void) { return space_put(space, WORDS, 0, 0, 0, 0, 0, one, 1) + space_take(space, WORDS, 0, 0, 0, any1, 1, result, 8); }
-static uint32_t look_last(void) { return space_look(space, WORDS, 0, 0, 0, last, 8, result, 8); }
+static uint32_t put_take(void) { return space_put(space, WORDS, 0, SET(0), 0, SET(0), 0, one, 1) + space_take(space, WORDS, 0, SET(0), 0, any1, 1, result, 8); }
+static uint32_t look_last(void) { return space_look(space, WORDS, 0, SET(0), 0, last, 8, result, 8); }
 static uint32_t take_oldest_put(void)
 {
-    uint32_t found = space_take(space, WORDS, 0, 0, 0, any8, 8, result, 8);
-    return found + space_put(space, WORDS, 0, 0, 0, 0, 0, result, 8);
+    uint32_t found = space_take(space, WORDS, 0, SET(0), 0, any8, 8, result, 8);
+    return found + space_put(space, WORDS, 0, SET(0), 0, SET(0), 0, result, 8);
 }
-static uint32_t look_refused(void) { return space_look(space, WORDS, 0, 40, 0, last, 8, result, 8); }
+static uint32_t look_refused(void) { return space_look(space, WORDS, 0, SET(40), 0, last, 8, result, 8); }
 static uint32_t open_(void) { return space_open(space, WORDS, roster, 16); }
-static uint32_t put1(void) { return space_put(space, WORDS, 0, 0, 0, 0, 0, one, 1); }
-static uint32_t look1(void) { return space_look(space, WORDS, 0, 0, 0, any1, 1, result, 8); }
-static uint32_t put8(void) { return space_put(space, WORDS, 7, 0, 0, 0, 0, entry, 8); }
-static uint32_t look_elsewhere(void) { return space_look(space, WORDS, 0, 3, 0, last, 8, result, 8); }
-static uint32_t take_oldest(void) { return space_take(space, WORDS, 0, 0, 0, any8, 8, result, 8); }
-static uint32_t take_last(void) { return space_take(space, WORDS, 0, 0, 0, last, 8, result, 8); }
-static uint32_t look_at_least(void) { return space_look(space, WORDS, 0, 0, 0, least, 8, result, 8); }
-static uint32_t look_at_most(void) { return space_look(space, WORDS, 0, 0, 0, most, 8, result, 8); }
-static uint32_t receive_last(void) { return space_receive(space, WORDS, 0, 0, 0, last, 8, result, 8); }
-static uint32_t look_names(void) { return space_look(space, WORDS, 0, 3, 0, any8, 8, result, 8); }
-static uint32_t receive_names(void) { return space_receive(space, WORDS, 0, 3, 0, any8, 8, result, 8); }
+static uint32_t put1(void) { return space_put(space, WORDS, 0, SET(0), 0, SET(0), 0, one, 1); }
+static uint32_t look1(void) { return space_look(space, WORDS, 0, SET(0), 0, any1, 1, result, 8); }
+static uint32_t put8(void) { return space_put(space, WORDS, 7, SET(0), 0, SET(0), 0, entry, 8); }
+static uint32_t look_elsewhere(void) { return space_look(space, WORDS, 0, SET(3), 0, last, 8, result, 8); }
+static uint32_t take_oldest(void) { return space_take(space, WORDS, 0, SET(0), 0, any8, 8, result, 8); }
+static uint32_t take_last(void) { return space_take(space, WORDS, 0, SET(0), 0, last, 8, result, 8); }
+static uint32_t look_at_least(void) { return space_look(space, WORDS, 0, SET(0), 0, least, 8, result, 8); }
+static uint32_t look_at_most(void) { return space_look(space, WORDS, 0, SET(0), 0, most, 8, result, 8); }
+static uint32_t receive_last(void) { return space_receive(space, WORDS, 0, SET(0), 0, last, 8, result, 8); }
+static uint32_t look_names(void) { return space_look(space, WORDS, 0, SET(3), 0, any8, 8, result, 8); }
+static uint32_t receive_names(void) { return space_receive(space, WORDS, 0, SET(3), 0, any8, 8, result, 8); }
+static uint32_t look_by_shared(void) { return space_look(space, WORDS, 0, SHARING, 0, any8, 8, result, 8); }
+static uint32_t look_by_upper(void) { return space_look(space, WORDS, 0, UPPER, 0, any8, 8, result, 8); }
+static uint32_t look_disjoint(void) { return space_look(space, WORDS, 0, DISJOINT, 0, any8, 8, result, 8); }
+static uint32_t take_by_shared(void) { return space_take(space, WORDS, 0, SHARING, 0, any8, 8, result, 8); }
+static uint32_t put_under_sets(void) { return space_put(space, WORDS, 7, SHARING, 0, UPPER, 0, entry, 8); }
 static uint32_t read_roster(void) { return space_read_roster(file, file_len, given, 16); }
 
 /* live entries before the round, how their last messages go or what the last entry carries, and the sum of the answers; for the reading
@@ -56,7 +69,7 @@ static uint32_t read_roster(void) { return space_read_roster(file, file_len, giv
 static const struct workload {
     char letter;
     uint32_t live;
-    enum { RISING, FALLING, NAMES, TWELVE, ALL, LONGEST, UNREADABLE, DIGITS } order;
+    enum { RISING, FALLING, NAMES, SETS, TWELVE, ALL, LONGEST, UNREADABLE, DIGITS } order;
     uint32_t sum, (*round)(void);
 } workloads[] = {
     {'.', 0, RISING, 0, nothing},
@@ -82,6 +95,11 @@ static const struct workload {
     {'t', 0, LONGEST, 0, read_roster},
     {'u', 0, UNREADABLE, 111, read_roster},
     {'v', 0, DIGITS, 112, read_roster},
+    {'w', 128, SETS, 8, look_by_shared},
+    {'x', 128, SETS, 8, look_by_upper},
+    {'y', 128, SETS, 0, look_disjoint},
+    {'z', 128, SETS, 8, take_by_shared},
+    {'A', 127, SETS, 0, put_under_sets},
 };
 enum { WORKLOADS = sizeof workloads / sizeof *workloads };
 
@@ -122,12 +140,13 @@ static void prepare_card(const struct workload *w)
 /* The last row with eight names that nobody holds, in a partition of its own. */
 static void prepare_names(uint64_t *row)
 {
-    row[1] = 3;
+    row[1] = SET(3);
     for (uint32_t i = 0; i < 8; i++) row[6 + i] = (i % 2 ? KEY : PARTITION) + 40 + i;
 }
 
 /* Words written as they stand, so that nothing but the round calls the library. Party p writes 16 rows of 8 messages, under the
-   defaults; the last message goes from 100 up or from 227 down. Everybody holds partitions 0 to 7 and keys -31 to -24 and 0. */
+   defaults or sets; the last message goes from 100 up or from 227 down. Everybody holds partitions 0 to 7, for sets also 50 and 51,
+   and keys -31 to -24 and 0. */
 static void prepare(const struct workload *w)
 {
     prepare_card(w);
@@ -135,11 +154,12 @@ static void prepare(const struct workload *w)
     kept[0] = w->live;
     for (uint32_t i = 0; i < 8; i++) {
         roster[i] = roster[8 + i] = 255;
-        kept[1 + i] = 255;
+        kept[1 + i] = w->order == SETS ? 255 | SET(50) | SET(51) : 255;
         kept[9 + i] = 255 | 1ull << 31;
     }
     for (uint32_t r = 0; r < w->live; r++) {
-        uint64_t row[ROW] = {r / 16, 0, 31, 0, 31, 8, 1, 2, 3, 4, 5, 6, 7, w->order == FALLING ? 227 - r : 100 + r};
+        uint64_t set = w->order != SETS ? SET(0) : r + 1 < w->live ? OF_ROWS : OF_ROWS | SET(4) | SET(50);
+        uint64_t row[ROW] = {r / 16, set, 31, set, 31, 8, 1, 2, 3, 4, 5, 6, 7, w->order == FALLING ? 227 - r : 100 + r};
         if (w->order == NAMES && r + 1 == w->live) prepare_names(row);
         memcpy(kept + 17 + ROW * r, row, sizeof row);
     }

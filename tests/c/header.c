@@ -1,4 +1,4 @@
-/* Prints what the helpers of space.h give, a line for each input, and what the space says of each word.
+/* Prints what the helpers of space.h give, a line for each input, and what the space says of each word and each set.
    tests/reference/src/bin/reference_header.rs prints the same lines without the header. C11 and C++11. */
 #include "space.h"
 #include <stdio.h>
@@ -7,14 +7,17 @@ typedef unsigned long long number;
 
 static uint64_t space[SPACE_WORDS];
 
-/* A put and a take of one word by party 0, which holds every name. */
-static uint32_t put(uint64_t word) { return space_put(space, SPACE_WORDS, 0, 0, 0, 0, 0, &word, 1); }
+/* A put and a take of one word, under a set, by party 0, which holds every name. */
+static uint32_t put_under(uint64_t set, uint64_t word) { return space_put(space, SPACE_WORDS, 0, set, 0, set, 0, &word, 1); }
 
-static uint32_t take(uint64_t word)
+static uint32_t take_under(uint64_t set, uint64_t word)
 {
     uint64_t result[SPACE_MOST_FIELDS];
-    return space_take(space, SPACE_WORDS, 0, 0, 0, &word, 1, result, SPACE_MOST_FIELDS);
+    return space_take(space, SPACE_WORDS, 0, set, 0, &word, 1, result, SPACE_MOST_FIELDS);
 }
+
+static uint32_t put(uint64_t word) { return put_under(space_set(0), word); }
+static uint32_t take(uint64_t word) { return take_under(space_set(0), word); }
 
 /* The word, or that it is bad; and what a put of it answers, and a take with it as template. */
 static void show_word(uint64_t word)
@@ -78,6 +81,59 @@ static void show_key(int32_t key)
     show_word(space_key(key));
 }
 
+/* The set, and what a put and a take under it answer. */
+static void show_set(uint64_t set)
+{
+    uint32_t of_put = put_under(set, 7);
+    uint32_t of_take = take_under(set, 7);
+    printf("set %llu, put %u, take %u\n", (number)set, (unsigned)of_put, (unsigned)of_take);
+}
+
+static void show_set_of(uint32_t partition)
+{
+    printf("of %u: ", (unsigned)partition);
+    show_set(space_set(partition));
+}
+
+static void show_join(uint64_t set, uint64_t other)
+{
+    printf("%llu with %llu: ", (number)set, (number)other);
+    show_set(space_join(set, other));
+}
+
+static uint64_t some_word(uint64_t *state)
+{
+    *state ^= *state << 13;
+    *state ^= *state >> 7;
+    *state ^= *state << 17;
+    return *state;
+}
+
+/* The set of every partition and of some that there aren't, joins of two and of more, and with the empty set. */
+static void show_sets(void)
+{
+    uint64_t state = 362436069, all = space_set(0);
+    for (uint32_t partition = 0; partition <= 70; partition++) show_set_of(partition);
+    for (uint32_t bit = 7; bit < 32; bit++) show_set_of(UINT32_C(1) << bit);
+    show_set_of(UINT32_MAX);
+    for (uint32_t partition = 1; partition <= SPACE_LAST_PARTITION; partition++) {
+        show_join(all, space_set(partition));
+        all = space_join(all, space_set(partition));
+    }
+    for (int i = 0; i < 200; i++) {
+        uint64_t set = some_word(&state);
+        uint64_t other = some_word(&state);
+        uint64_t few = set & other & some_word(&state);
+        show_join(set, other);
+        show_join(few, other);
+        show_join(few, few);
+        show_join(0, set);
+        show_join(set, 0);
+    }
+    show_join(0, 0);
+    show_join(UINT64_MAX, 1);
+}
+
 static void show_kind(uint64_t word)
 {
     printf("of word %llu: kind %u, value %lld\n", (number)word, (unsigned)space_kind(word), (long long)space_value(word));
@@ -122,14 +178,6 @@ static void open_for_all(void)
     show_roster(space + 1);
 }
 
-static uint64_t some_word(uint64_t *state)
-{
-    *state ^= *state << 13;
-    *state ^= *state >> 7;
-    *state ^= *state << 17;
-    return *state;
-}
-
 int main(void)
 {
     uint64_t state = 88172645463325252u;
@@ -154,6 +202,7 @@ int main(void)
         show_key(INT32_MIN + step);
         show_key(INT32_MAX - step);
     }
+    show_sets();
     show_takes_by_bounds();
     for (uint64_t kind = 0; kind <= 7; kind++) {
         for (uint64_t value = 0; value <= 70; value++) show_kind(kind * 4294967296u + value);

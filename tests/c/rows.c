@@ -19,6 +19,14 @@ static uint64_t word_of(const char *field)
     }
 }
 
+/* The set that a text names, partition by partition. */
+static uint64_t set_of(const char *text)
+{
+    uint64_t set = space_set((uint32_t)strtoul(text, NULL, 10));
+    while ((text = strchr(text, ':'))) set = space_join(set, space_set((uint32_t)strtoul(++text, NULL, 10)));
+    return set;
+}
+
 static void show(uint32_t answer, const uint64_t *result)
 {
     printf("%u", (unsigned)answer);
@@ -30,13 +38,13 @@ static void show(uint32_t answer, const uint64_t *result)
 
 int main(void)
 {
-    char line[200], call[8], rpart[12], rkey[12], tpart[12], tkey[12], text[120];
+    char line[600], call[8], rpart[200], rkey[12], tpart[200], tkey[12], text[120];
     unsigned party;
     int opened = 0;
     memset(space, 0xff, sizeof space);
     while (fgets(line, sizeof line, stdin)) {
         uint64_t fields[SPACE_MOST_FIELDS], result[SPACE_MOST_FIELDS], count = 0;
-        if (sscanf(line, "%7s %u %11s %11s %11s %11s %119s", call, &party, rpart, rkey, tpart, tkey, text) != 7) return 1;
+        if (sscanf(line, "%7s %u %199s %11s %199s %11s %119s", call, &party, rpart, rkey, tpart, tkey, text) != 7) return 1;
         if (!strcmp(call, "give")) {
             if (strcmp(rpart, "-") && !space_give_partition(roster, party, (uint32_t)atoi(rpart))) return 1;
             if (strcmp(rkey, "-") && !space_give_key(roster, party, atoi(rkey))) return 1;
@@ -46,16 +54,16 @@ int main(void)
         opened = 1;
         for (char *field = strtok(text, ","); field && count < SPACE_MOST_FIELDS; field = strtok(NULL, ","))
             fields[count++] = word_of(field);
-        const uint32_t partition = (uint32_t)atoi(rpart);
+        const uint64_t set = set_of(rpart);
         const int32_t key = atoi(rkey);
         if (!strcmp(call, "put"))
-            show(space_put(space, SPACE_WORDS, party, partition, key, (uint32_t)atoi(tpart), atoi(tkey), fields, count), NULL);
+            show(space_put(space, SPACE_WORDS, party, set, key, set_of(tpart), atoi(tkey), fields, count), NULL);
         else if (!strcmp(call, "look"))
-            show(space_look(space, SPACE_WORDS, party, partition, key, fields, count, result, SPACE_MOST_FIELDS), result);
+            show(space_look(space, SPACE_WORDS, party, set, key, fields, count, result, SPACE_MOST_FIELDS), result);
         else if (!strcmp(call, "receive"))
-            show(space_receive(space, SPACE_WORDS, party, partition, key, fields, count, result, SPACE_MOST_FIELDS), result);
+            show(space_receive(space, SPACE_WORDS, party, set, key, fields, count, result, SPACE_MOST_FIELDS), result);
         else if (!strcmp(call, "take"))
-            show(space_take(space, SPACE_WORDS, party, partition, key, fields, count, result, SPACE_MOST_FIELDS), result);
+            show(space_take(space, SPACE_WORDS, party, set, key, fields, count, result, SPACE_MOST_FIELDS), result);
         else
             return 1;
     }

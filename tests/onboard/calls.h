@@ -8,15 +8,19 @@ enum kind { OPEN, PUT, LOOK, RECEIVE, TAKE, KINDS };
 
 struct call {
     enum kind kind;
-    uint32_t party, partition[2];
+    uint32_t party;
+    uint64_t set[2];
     int32_t key[2];
     uint64_t space_len, count, room;
     uint64_t list[18]; /* the roster, or the fields */
 };
 
 /* what is given to each party: all of the few partitions and keys that the calls name, but for parties 5 to 7, which lack some */
+static const uint8_t usual_partitions[4] = {0, 5, 40, 63};
+#define ALL_USUAL (1ull | 1ull << 5 | 1ull << 40 | 1ull << 63)
 #define KEYS_3_TO_2 (63ull << 28) /* keys -3 to 2 */
-static const uint64_t usual_roster[ROSTER] = {7, 7, 7, 7, 7, 3, 5, 1, KEYS_3_TO_2, KEYS_3_TO_2, KEYS_3_TO_2, KEYS_3_TO_2, KEYS_3_TO_2,
+static const uint64_t usual_roster[ROSTER] = {ALL_USUAL, ALL_USUAL, ALL_USUAL, ALL_USUAL, ALL_USUAL, 1ull | 1ull << 5, 1ull | 1ull << 63, 1,
+                                              KEYS_3_TO_2, KEYS_3_TO_2, KEYS_3_TO_2, KEYS_3_TO_2, KEYS_3_TO_2,
                                               7ull << 30, 7ull << 29, 1ull << 31};
 
 /* The order of evaluation is left open within an expression of C, so no expression here has two numbers whose order matters. */
@@ -39,6 +43,42 @@ static inline uint64_t a_bound(uint32_t number)
     return kind + (number + below(3) - 1);
 }
 
+static inline uint32_t a_partition(void) { return usual_partitions[below(4)]; }
+
+/* a set of one usual partition or of some; seldom of others too, or of all, or the empty one */
+static inline uint64_t a_set(void)
+{
+    uint32_t at = below(300);
+    uint64_t one = set_of(a_partition());
+    uint64_t other = set_of(a_partition());
+    uint64_t any = any64();
+    if (at == 0) return 0;
+    if (at == 1) return any;
+    if (at == 2) return UINT64_MAX;
+    if (at < 6) return one | set_of(any % 64);
+    if (at < 90) return one | other;
+    if (at < 120) return one | (any & ALL_USUAL);
+    return one;
+}
+
+/* one partition of a set, or the empty set where that is it */
+static inline uint64_t one_of(uint64_t set)
+{
+    uint32_t from = below(64);
+    for (uint32_t i = 0; i < 64; i++)
+        if (has(set, (from + i) % 64)) return set_of((from + i) % 64);
+    return 0;
+}
+
+/* a set that mostly shares a partition with this one */
+static inline uint64_t a_near_set(uint64_t set)
+{
+    uint32_t at = below(10);
+    uint64_t one = one_of(set);
+    uint64_t other = a_set();
+    return at < 4 ? set : at < 6 ? one : at < 8 ? one | other : at < 9 ? other & ~set : other;
+}
+
 static inline uint64_t a_field(int in_template)
 {
     uint32_t at = below(1000);
@@ -49,21 +89,22 @@ static inline uint64_t a_field(int in_template)
     if (at < 850) return below(3);
     if (at < 870) return UINT32_MAX;
     if (at < 880) return (uint32_t)any64();
-    return at < 940 ? PARTITION_FIELD + below(4) : KEY_FIELD + 28 + below(6);
+    return at < 940 ? PARTITION_FIELD + a_partition() : KEY_FIELD + 28 + below(6);
 }
 
 /* where in a row the pair is that a look, a receive or a take goes by */
-static inline uint32_t pair_of(const struct call *c) { return c->kind == TAKE ? TAKE_PARTITION : READ_PARTITION; }
+static inline uint32_t pair_of(const struct call *c) { return c->kind == TAKE ? TAKE_SET : READ_SET; }
 
 /* one of the three, a take every second time */
 static inline enum kind a_seek(void) { return seldom(2) ? TAKE : seldom(2) ? LOOK : RECEIVE; }
 
-/* A template that a live row matches, now and then with a wildcard for a field, or with a bound, by which it may just fail. */
+/* A template that a live row matches, now and then with another set, with a wildcard for a field, or with a bound, by which it may
+   just fail. */
 static inline void a_match(struct call *c, const uint64_t *space)
 {
     const uint64_t *row = space + row_at(below((uint32_t)space[0]));
     uint32_t pair = pair_of(c);
-    c->partition[0] = (uint32_t)row[pair];
+    c->set[0] = a_near_set(row[pair]);
     c->key[0] = 31 - (int32_t)row[pair + 1];
     c->count = row[COUNT];
     for (uint32_t i = 0; i < MOST_FIELDS; i++) {
@@ -90,7 +131,7 @@ static inline void a_roster(struct call *c)
 /* A put that its party is allowed, whoever it is. */
 static inline void a_plain_put(struct call *c)
 {
-    c->partition[0] = c->partition[1] = 0;
+    c->set[0] = c->set[1] = set_of(0);
     c->key[0] = c->key[1] = 0;
     for (uint32_t i = 0; i < MOST_FIELDS; i++) c->list[i] = below(3);
 }
@@ -102,7 +143,7 @@ static inline void a_call(struct call *c, const uint64_t *space, uint32_t percen
     c->kind = at < 5 ? OPEN : at < 10 * percent_puts ? PUT : a_seek();
     c->party = seldom(200) ? (uint32_t)any64() : below(PARTIES);
     for (uint32_t i = 0; i < 2; i++) {
-        c->partition[i] = seldom(300) ? (seldom(2) ? 60 + below(8) : (uint32_t)any64()) : below(3);
+        c->set[i] = a_set();
         c->key[i] = seldom(300) ? (seldom(2) ? (int32_t)below(70) - 35 : (int32_t)any64()) : (int32_t)below(5) - 2;
     }
     c->space_len = !seldom(250) ? WORDS : seldom(2) ? WORDS - 1 : below(WORDS);

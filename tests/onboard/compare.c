@@ -21,11 +21,11 @@ static struct lent proved, plain;
 
 static uint64_t guard(uint32_t at) { return 0x6A09E667F3BCC909u + at; }
 
-typedef uint32_t look_call(const uint64_t *, uint64_t, uint32_t, uint32_t, int32_t, const uint64_t *, uint64_t, uint64_t *, uint64_t);
-typedef uint32_t seek_call(uint64_t *, uint64_t, uint32_t, uint32_t, int32_t, const uint64_t *, uint64_t, uint64_t *, uint64_t);
+typedef uint32_t look_call(const uint64_t *, uint64_t, uint32_t, uint64_t, int32_t, const uint64_t *, uint64_t, uint64_t *, uint64_t);
+typedef uint32_t seek_call(uint64_t *, uint64_t, uint32_t, uint64_t, int32_t, const uint64_t *, uint64_t, uint64_t *, uint64_t);
 static const struct side {
     uint32_t (*open)(uint64_t *, uint64_t, const uint64_t *, uint64_t);
-    uint32_t (*put)(uint64_t *, uint64_t, uint32_t, uint32_t, int32_t, uint32_t, int32_t, const uint64_t *, uint64_t);
+    uint32_t (*put)(uint64_t *, uint64_t, uint32_t, uint64_t, int32_t, uint64_t, int32_t, const uint64_t *, uint64_t);
     look_call *look;
     seek_call *receive, *take;
 } library = {space_open, space_put, space_look, space_receive, space_take},
@@ -36,17 +36,19 @@ static uint32_t make(const struct side *by, struct lent *on, const struct call *
     uint64_t *s = on->space;
     if (c->kind == OPEN) return by->open(s, c->space_len, c->list, c->count);
     if (c->kind == PUT)
-        return by->put(s, c->space_len, c->party, c->partition[0], c->key[0], c->partition[1], c->key[1], c->list, c->count);
-    if (c->kind == LOOK) return by->look(s, c->space_len, c->party, c->partition[0], c->key[0], c->list, c->count, on->result, c->room);
-    return (c->kind == RECEIVE ? by->receive : by->take)(s, c->space_len, c->party, c->partition[0], c->key[0], c->list, c->count,
+        return by->put(s, c->space_len, c->party, c->set[0], c->key[0], c->set[1], c->key[1], c->list, c->count);
+    if (c->kind == LOOK) return by->look(s, c->space_len, c->party, c->set[0], c->key[0], c->list, c->count, on->result, c->room);
+    return (c->kind == RECEIVE ? by->receive : by->take)(s, c->space_len, c->party, c->set[0], c->key[0], c->list, c->count,
                                                          on->result, c->room);
 }
 
-/* Bits of the space turned over, by the clause of soundness that this should break; 0 where the space has no place for that. */
-enum { FIRST_CLAUSE = 2, BY_AT_LEAST = 10, BY_AT_MOST, CLAUSES }; /* S2 to S9 of docs/RULES.md, then S6 by a bound in a live row */
+/* Bits of the space turned over, by the clause of soundness that this should break; 0 where the space has no place for that. The clauses
+   are S2 to S9 of docs/RULES.md, then S6 by a bound or by an empty set in a live row. */
+enum { FIRST_CLAUSE = 2, BY_AT_LEAST = 10, BY_AT_MOST, BY_READ_SET, BY_TAKE_SET, CLAUSES };
 
 static int damage(uint32_t clause, const uint64_t *space, uint32_t *word, uint64_t *bits)
 {
+    static const uint8_t in_head[5] = {WRITER, READ_KEY, TAKE_KEY, COUNT, FIELDS}; /* and the first field */
     uint32_t live = (uint32_t)space[0], at = live ? row_at(below(live)) : 0;
     *bits = 1ull << below(64);
     switch (clause) {
@@ -54,7 +56,7 @@ static int damage(uint32_t clause, const uint64_t *space, uint32_t *word, uint64
     case 3: return *word = PARTITIONS_AT + below(PARTIES), *bits = 1, 1;
     case 4: return *word = KEYS_AT + below(PARTIES), *bits = 1ull << 31, 1;
     case 5: return *word = KEYS_AT + below(PARTIES), *bits = 1ull << 63, 1;
-    case 6: return *word = at + (seldom(2) ? below(FIELDS) : FIELDS), *bits = 1ull << (6 + below(58)), live > 0;
+    case 6: return *word = at + in_head[below(5)], *bits = 1ull << (6 + below(58)), live > 0;
     case 7: return *word = at + ROW - 1, live > 0 && space[at + COUNT] < MOST_FIELDS;
     case 8: return *word = at, *bits = 1 + below(PARTIES - 1), live > 0;
     case BY_AT_LEAST:
@@ -62,18 +64,25 @@ static int damage(uint32_t clause, const uint64_t *space, uint32_t *word, uint64
         *word = live ? at + FIELDS + below((uint32_t)space[at + COUNT]) : 0;
         *bits = (space[*word] & ~(uint64_t)UINT32_MAX) ^ (clause == BY_AT_LEAST ? AT_LEAST : AT_MOST);
         return live > 0;
+    case BY_READ_SET: return *word = at + READ_SET, *bits = space[*word], live > 0;
+    case BY_TAKE_SET: return *word = at + TAKE_SET, *bits = space[*word], live > 0;
     default: return *word = row_at(live) + below(ROW), live < ROWS;
     }
 }
 
 static uint32_t answers[KINDS][ANSWERS], damaged[CLAUSES], long_space, long_roster, long_fields, long_result, bound_63, most_rows;
 static uint64_t hash = 0xcbf29ce484222325u;
-static uint64_t earlier[WORDS]; /* the library's space before a look, receive or take */
+static uint64_t earlier[WORDS]; /* the library's space before a call */
 static uint32_t lacked[KINDS];  /* found with a name that the party did not hold */
 
 /* What the bounds met with, each counted for itself: in a put that was refused by 105, or in a template that was not refused. */
 enum { NONE, FOUND, ITS_NUMBER, BY_0, BY_THE_LARGEST, A_PARTITION, A_KEY, IN_A_PUT, MEETINGS };
 static uint32_t met[2][MEETINGS]; /* at least, at most */
+
+/* What came of the sets, by kind of call: found by another set than the entry's; by partitions above 31 alone; a row that agrees but for
+   its set; refused by 107 with a set that is held in part, and by 104 with an empty one, and nothing else that would be refused so. */
+enum { BY_ANOTHER_SET, BY_UPPER, KEPT_AWAY, HELD_IN_PART, EMPTY_SET, SET_MEETINGS };
+static uint32_t by_sets[KINDS][SET_MEETINGS];
 
 static void hash_in(uint64_t word) { hash = (hash ^ word) * 0x100000001b3u; }
 
@@ -85,7 +94,7 @@ static int meets(const struct call *c, uint32_t place, uint32_t kind)
     for (uint32_t r = 0; r < proved.space[0]; r++) {
         const uint64_t *row = proved.space + row_at(r);
         uint32_t number = (uint32_t)row[FIELDS + place];
-        if (row[pair] != c->partition[0] || (int32_t)row[pair + 1] != 31 - c->key[0] || row[COUNT] != c->count) continue;
+        if (!share(row[pair], c->set[0]) || (int32_t)row[pair + 1] != 31 - c->key[0] || row[COUNT] != c->count) continue;
         if (row[FIELDS + place] >> 32 == kind && (c->list[place] < AT_MOST ? number >= bound : number <= bound)) return 1;
     }
     return 0;
@@ -108,6 +117,52 @@ static void count_bounds(const struct call *c, uint32_t answer)
     }
 }
 
+/* Of a call that is refused by 104 or 107: is nothing but sets the cause, empty ones or some that are held in part? */
+static void count_refused(const struct call *c, uint32_t answer)
+{
+    uint64_t held = earlier[PARTITIONS_AT + c->party];
+    uint32_t empty = 0, in_part = 0, others = 0;
+    for (uint32_t i = 0; i < (c->kind == PUT ? 2 : 1); i++) {
+        int32_t key = c->key[i];
+        empty += !c->set[i];
+        in_part += share(c->set[i], held) && share(c->set[i], ~held);
+        others += answer == 104 ? key < -31 || key > 31 : !share(c->set[i], held) || !has(earlier[KEYS_AT + c->party], (uint32_t)(key + 31));
+    }
+    for (uint32_t i = 0; answer == 107 && i < c->count; i++) others += c->list[i] < WILDCARD && lacks(earlier, c->party, c->list[i]);
+    by_sets[c->kind][EMPTY_SET] += answer == 104 && empty && !others;
+    by_sets[c->kind][HELD_IN_PART] += answer == 107 && in_part && !others;
+}
+
+/* Does a row agree with a template in count, key and fields? One with bounds isn't asked about. */
+static int agrees_otherwise(const struct call *c, const uint64_t *row)
+{
+    if (row[COUNT] != c->count || (int32_t)row[pair_of(c) + 1] != 31 - c->key[0]) return 0;
+    for (uint32_t i = 0; i < c->count; i++)
+        if (c->list[i] != WILDCARD && c->list[i] != row[FIELDS + i]) return 0;
+    return 1;
+}
+
+/* With the rows before the call. */
+static void count_sets(const struct call *c, uint32_t answer)
+{
+    uint32_t *times = by_sets[c->kind], away = 0;
+    if (c->kind == OPEN) return;
+    if (answer == 104 || answer == 107) count_refused(c, answer);
+    if (c->kind == PUT || answer > MOST_FIELDS) return;
+    for (uint32_t r = 0; r < earlier[0]; r++) {
+        const uint64_t *row = earlier + row_at(r);
+        uint64_t set = row[pair_of(c)];
+        if (!agrees_otherwise(c, row)) continue;
+        if (share(set, c->set[0])) {
+            times[BY_ANOTHER_SET] += set != c->set[0];
+            times[BY_UPPER] += !share((uint32_t)set, c->set[0]);
+            break;
+        }
+        away++;
+    }
+    times[KEPT_AWAY] += away > 0;
+}
+
 /* Of the fields that a call found: how many carry a name that its party lacks, by these holdings? */
 static uint32_t lacking(const struct call *c, uint32_t answer, const uint64_t *space)
 {
@@ -120,6 +175,7 @@ static void count(const struct call *c, uint32_t answer)
 {
     answers[c->kind][answer]++;
     count_bounds(c, answer);
+    count_sets(c, answer);
     lacked[c->kind] += lacking(c, answer, earlier) > 0;
     if (c->space_len >> 32) long_space++;
     else if (c->count >> 32) *(c->kind == OPEN ? &long_roster : &long_fields) += answer == (c->kind == OPEN ? 109 : 103);
@@ -151,7 +207,7 @@ static const char *difference(uint32_t by_library, uint32_t by_c, const struct c
 static uint32_t alike(const struct call *c, const char *which, uint32_t number)
 {
     struct call kept = *c;
-    for (uint32_t i = 0; c->kind > PUT && i < WORDS; i++) earlier[i] = proved.space[i];
+    for (uint32_t i = 0; i < WORDS; i++) earlier[i] = proved.space[i];
     uint32_t a = make(&library, &proved, c), b = make(&by_hand, &plain, c);
     const char *what = difference(a, b, c, &kept);
     if (what) {
@@ -201,20 +257,25 @@ static int all_calls(void)
     return 1;
 }
 
-/* Row by row: what is put into a row differs in every word, but for the field count, from what is put into the rows beside it. */
+/* Row by row: what is put into a row differs in every word, but for the field count, from what is put into the rows beside it. Every
+   sixteenth has all partitions in its sets. */
 static struct call entry_of(uint32_t row)
 {
     struct call c = {.kind = PUT, .party = row % PARTIES, .space_len = WORDS, .count = MOST_FIELDS, .room = MOST_FIELDS};
-    for (uint32_t i = 0; i < 2; i++) c.partition[i] = (row + 32 * i) % 64, c.key[i] = (int32_t)((row + 32 * i) % 63) - 31;
+    for (uint32_t i = 0; i < 2; i++) {
+        uint32_t number = row + 32 * i;
+        c.set[i] = row % 16 == 5 ? UINT64_MAX : set_of(number % 64) | set_of((number + 1) % 64) | set_of((number + 21) % 64);
+        c.key[i] = (int32_t)(number % 63) - 31;
+    }
     for (uint32_t i = 0; i < MOST_FIELDS; i++) c.list[i] = FIRST_MESSAGE + MOST_FIELDS * row + i;
     return c;
 }
 
-/* with a template that only that entry matches */
+/* with a template that only that entry matches, and one partition of its set */
 static struct call search_of(enum kind kind, uint32_t row)
 {
     struct call c = entry_of(row);
-    c.kind = kind, c.partition[0] = c.partition[kind == TAKE], c.key[0] = -c.key[kind == TAKE];
+    c.kind = kind, c.set[0] = set_of((row + 32 * (kind == TAKE)) % 64), c.key[0] = -c.key[kind == TAKE];
     for (uint32_t i = 1; i < MOST_FIELDS; i++) c.list[i] = WILDCARD;
     return c;
 }
@@ -242,7 +303,8 @@ static int looked_at_received_and_taken(uint32_t entry)
 static int bad_words_refused(uint32_t row, int is_live)
 {
     for (uint32_t i = 0; i < ROW; i++) {
-        uint64_t bad = i == WRITER ? PARTIES : i < COUNT ? 64 : i == COUNT ? 1 : WILDCARD;
+        uint64_t old = proved.space[row_at(row) + i]; /* no set is left of it */
+        uint64_t bad = i == WRITER ? PARTIES : i == READ_SET || i == TAKE_SET ? old : i < COUNT ? 64 : i == COUNT ? 1 : WILDCARD;
         turn(row_at(row) + i, is_live ? bad : 1);
         if (!due(i % 4 ? search_of(PUT + i % 4, row) : entry_of(row), 101)) return 0;
         turn(row_at(row) + i, is_live ? bad : 1);
@@ -286,6 +348,8 @@ static int tried(const char *what, uint32_t times)
 static int all_tried(void)
 {
     static const char *const names[] = {"open", "put", "look", "receive", "take"}, *const bounds[] = {"at least", "at most"};
+    static const char *const sets[] = {"found by another set", "found by partitions above 31 alone", "a row kept away by its set alone",
+                                       "refused by 107, a set held in part", "refused by 104, an empty set"};
     static const char *const meetings[] = {"none", "found", "found, its own number", "0, found", "4294967295, found",
                                            "met with a partition", "met with a key", "refused in a put"};
     int ok = 1;
@@ -304,7 +368,8 @@ static int all_tried(void)
     for (uint32_t clause = FIRST_CLAUSE; clause < CLAUSES; clause++) {
         char what[48];
         if (clause < BY_AT_LEAST) snprintf(what, sizeof what, "damage refused, S%u:", (unsigned)clause);
-        else snprintf(what, sizeof what, "damage refused, S6, %s in a row:", bounds[clause - BY_AT_LEAST]);
+        else if (clause < BY_READ_SET) snprintf(what, sizeof what, "damage refused, S6, %s in a row:", bounds[clause - BY_AT_LEAST]);
+        else snprintf(what, sizeof what, "damage refused, S6, an empty %s set:", clause == BY_READ_SET ? "read" : "take");
         ok &= tried(what, damaged[clause]);
     }
     for (uint32_t kind = 0; kind < 2; kind++)
@@ -312,6 +377,12 @@ static int all_tried(void)
             char what[48];
             snprintf(what, sizeof what, "%s, %s:", bounds[kind], meetings[m]);
             ok &= tried(what, met[kind][m]);
+        }
+    for (uint32_t kind = PUT; kind < KINDS; kind++)
+        for (uint32_t m = kind == PUT ? HELD_IN_PART : 0; m < SET_MEETINGS; m++) {
+            char what[64];
+            snprintf(what, sizeof what, "%s, %s:", names[kind], sets[m]);
+            ok &= tried(what, by_sets[kind][m]);
         }
     ok &= tried("lengths of 2^32 and more, space:", long_space) & tried("roster:", long_roster) & tried("fields:", long_fields);
     ok &= tried("result, and found:", long_result) & tried("bit 63 in a roster:", bound_63);

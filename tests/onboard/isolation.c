@@ -16,22 +16,68 @@ static uint64_t partitions, keys;           /* G4: the group's names */
 static uint32_t compared, others_done, entries;
 static uint32_t found[KINDS], others_found[KINDS], lacked[KINDS]; /* lacked: the group found a name that the member didn't hold */
 static uint32_t found_by_bounds, others_found_by_bounds; /* templates with a bound */
+static uint32_t found_by_several, others_found_by_several; /* templates with several partitions */
+static uint32_t spared_by_key;  /* others' calls with a set that overlaps the group's names in part, out of the grasp by the key */
+static uint32_t reached_by_one; /* others' pairs in the grasp by one of several partitions: such a call is made so that it is refused */
 
 static int member(uint32_t party) { return party < PARTIES && group >> party & 1; }
 
-/* G5, G6: the names include the partition and the co-key. Keys are small here. */
-static int reached(uint32_t partition, int32_t key) { return partitions >> partition & keys >> (31 - key) & 1; }
+/* The group is given of the first four, the others of all. */
+static const uint8_t run_partitions[10] = {0, 1, 33, 63, 2, 5, 31, 32, 40, 62};
 
+/* About three in four of the first partitions. */
+static uint64_t most_of_first(uint32_t first)
+{
+    uint64_t set = 0;
+    for (uint32_t i = 0; i < first; i++)
+        if (!seldom(4)) set |= set_of(run_partitions[i]);
+    return set;
+}
+
+/* One of the first, and every second time another one or two. */
+static uint64_t a_run_set(uint32_t first)
+{
+    uint64_t set = set_of(run_partitions[below(first)]);
+    for (uint32_t more = seldom(2) ? 1 + below(2) : 0; more > 0; more--) set |= set_of(run_partitions[below(first)]);
+    return set;
+}
+
+/* How many partitions of a set are among the group's names? */
+static uint32_t reached(uint64_t set)
+{
+    uint32_t of_group = 0;
+    for (uint32_t i = 0; i < 10; i++) of_group += has(set, run_partitions[i]) && has(partitions, run_partitions[i]);
+    return of_group;
+}
+
+static int co_key_held(int32_t key) { return has(keys, (uint32_t)(31 - key)); } /* keys are small here */
+
+static int is_of_several(uint64_t set) { return (set & (set - 1)) != 0; }
+
+/* G5, G6: the names include a partition of the set, and the co-key. */
 static int in_grasp(const struct call *c)
 {
+    int grasped = 0;
     if (c->kind == LOOK || c->kind == RECEIVE) return 0; /* G7: these are free */
-    return reached(c->partition[0], c->key[0]) || (c->kind == PUT && reached(c->partition[1], c->key[1]));
+    for (uint32_t i = 0; i < (c->kind == PUT ? 2 : 1); i++) {
+        if (reached(c->set[i]) && co_key_held(c->key[i])) grasped = 1;
+        reached_by_one += reached(c->set[i]) == 1 && is_of_several(c->set[i]) && co_key_held(c->key[i]);
+    }
+    return grasped;
+}
+
+/* Of a call that isn't in the grasp and wasn't refused. */
+static int only_by_key(const struct call *c)
+{
+    for (uint32_t i = 0; i < (c->kind == PUT ? 2 : 1); i++)
+        if (c->kind != LOOK && c->kind != RECEIVE && reached(c->set[i]) && share(c->set[i], ~partitions)) return 1;
+    return 0;
 }
 
 /* About three in four of the bits. */
 static uint64_t most_of(uint64_t bits) { return bits & (any64() | any64()); }
 
-/* Both openings give the members the same, of partitions 0 to 3 and keys -3 to 3; what the others get, of more, differs. */
+/* Both openings give the members the same, of four partitions and keys -3 to 3; what the others get, of more, differs. */
 static void open_both(void)
 {
     uint64_t roster[2][ROSTER];
@@ -39,11 +85,11 @@ static void open_both(void)
     partitions = 1, keys = 1ull << 31;
     for (uint32_t p = 0; p < PARTIES; p++)
         if (member(p)) {
-            partitions |= roster[0][p] = roster[1][p] = most_of(0xF);
+            partitions |= roster[0][p] = roster[1][p] = most_of_first(4);
             keys |= roster[0][8 + p] = roster[1][8 + p] = most_of(0x7Full << 28);
         } else
             for (uint32_t run = 0; run < 2; run++) {
-                roster[run][p] = most_of(0x3FF);
+                roster[run][p] = most_of_first(10);
                 roster[run][8 + p] = most_of(0x1FFFull << 25);
             }
     for (uint32_t run = 0; run < 2; run++) {
@@ -56,25 +102,26 @@ static uint32_t make(uint32_t run, const struct call *c, uint64_t *result)
 {
     uint64_t *s = space[run];
     switch (c->kind) {
-    case PUT: return space_put(s, WORDS, c->party, c->partition[0], c->key[0], c->partition[1], c->key[1], c->list, c->count);
-    case LOOK: return space_look(s, WORDS, c->party, c->partition[0], c->key[0], c->list, c->count, result, c->room);
-    case RECEIVE: return space_receive(s, WORDS, c->party, c->partition[0], c->key[0], c->list, c->count, result, c->room);
-    default: return space_take(s, WORDS, c->party, c->partition[0], c->key[0], c->list, c->count, result, c->room);
+    case PUT: return space_put(s, WORDS, c->party, c->set[0], c->key[0], c->set[1], c->key[1], c->list, c->count);
+    case LOOK: return space_look(s, WORDS, c->party, c->set[0], c->key[0], c->list, c->count, result, c->room);
+    case RECEIVE: return space_receive(s, WORDS, c->party, c->set[0], c->key[0], c->list, c->count, result, c->room);
+    default: return space_take(s, WORDS, c->party, c->set[0], c->key[0], c->list, c->count, result, c->room);
     }
 }
 
-/* A call that names some of the first partitions, and keys from -most to most; a template has mostly wildcards and bounds. */
+/* A call that names sets of the first partitions, and keys from -most to most; a template has mostly wildcards and bounds. */
 static void a_run_call(struct call *c, uint32_t first, int32_t most)
 {
     c->kind = seldom(2) ? PUT : a_seek();
     for (uint32_t i = 0; i < 2; i++) {
-        c->partition[i] = below(first);
+        c->set[i] = a_run_set(first);
         c->key[i] = (int32_t)below(2 * (uint32_t)most + 1) - most;
     }
     c->count = seldom(40) ? below(10) : seldom(4) ? 2 : 1;
     c->room = seldom(40) ? below(2) : MOST_FIELDS;
     for (uint32_t i = 0; i < 10; i++) {
-        uint64_t name = seldom(2) ? PARTITION_FIELD + below(first) : KEY_FIELD + 31 - (uint32_t)most + below(2 * (uint32_t)most + 1);
+        uint64_t name = seldom(2) ? PARTITION_FIELD + run_partitions[below(first)]
+                                  : KEY_FIELD + 31 - (uint32_t)most + below(2 * (uint32_t)most + 1);
         uint64_t bound = a_bound(below(3));
         c->list[i] = c->kind != PUT && below(4) ? (below(3) ? WILDCARD : bound) : below(4) ? below(3) : name;
     }
@@ -105,8 +152,12 @@ static void other_call(uint32_t run)
     c.party = a_party(0);
     if (in_grasp(&c)) c.count = seldom(2) ? 0 : 9;
     uint32_t answer = make(run, &c, result);
+    if (answer <= MOST_FIELDS) spared_by_key += only_by_key(&c);
     if (c.kind == PUT) others_done += answer == 0;
-    else if (answer - 1 < MOST_FIELDS) others_found[c.kind]++, others_found_by_bounds += has_bound(&c);
+    else if (answer - 1 < MOST_FIELDS) {
+        others_found[c.kind]++, others_found_by_bounds += has_bound(&c);
+        others_found_by_several += is_of_several(c.set[0]);
+    }
 }
 
 static int group_call(void)
@@ -124,7 +175,7 @@ static int group_call(void)
     compared++;
     if (answer[0] != answer[1]) return 0;
     if (c.kind == PUT || answer[0] - 1 >= MOST_FIELDS) return 1;
-    found[c.kind]++, found_by_bounds += has_bound(&c);
+    found[c.kind]++, found_by_bounds += has_bound(&c), found_by_several += is_of_several(c.set[0]);
     for (uint32_t i = 0; i < answer[0]; i++) {
         if (result[0][i] != result[1][i]) return 0;
         lacking += lacks(had, c.party, result[0][i]);
@@ -187,7 +238,11 @@ int main(void)
     all &= tried("a name that the member lacked:", lacked);
     all &= tried("found by others:", others_found);
     printf("found by templates with bounds: by the group %u, by others %u\n", (unsigned)found_by_bounds, (unsigned)others_found_by_bounds);
-    if (!all || !compared || !entries || !others_done || !found_by_bounds || !others_found_by_bounds)
+    printf("found by sets of several: by the group %u, by others %u\n", (unsigned)found_by_several, (unsigned)others_found_by_several);
+    printf("others' calls with a set that overlaps the group's names in part, kept out of the grasp by a key %u\n", (unsigned)spared_by_key);
+    printf("others' pairs in the grasp by one of several partitions, all refused %u\n", (unsigned)reached_by_one);
+    if (!all || !compared || !entries || !others_done || !found_by_bounds || !others_found_by_bounds || !found_by_several
+        || !others_found_by_several || !spared_by_key || !reached_by_one)
         return printf("FAILED: a count is 0\n"), 1;
     printf("%u pairs of runs alike\n", (unsigned)PAIRS);
     return 0;

@@ -10,23 +10,25 @@ int main(void)
 {
     static const uint64_t right[ROSTER] = {1ull << 5, 1ull << 5, [8] = 1ull << 35, 1ull << 27};
     static const uint8_t file[] = "party kind name\n0 p 5\n0 k 4\n1 k -4\n1 p 5\n1 k -4\n1 p 64\n";
-    uint64_t roster[ROSTER];
+    uint64_t roster[ROSTER], five = set_of(5), with_0 = set_of(0) | five, with_9 = five | set_of(9);
     static const uint64_t entry[2] = {7, 120}, first[2] = {7, WILDCARD}, any[2] = {WILDCARD, WILDCARD}, key_4[1] = {KEY_FIELD + 35};
     if (space_read_roster(file, sizeof file - 1, roster, ROSTER) != 112) return 9;
     if (space_read_roster(file, sizeof file - 8, roster, ROSTER) != 0) return 10;
     for (int i = 0; i < ROSTER; i++)
         if (roster[i] != right[i]) return 11;
     if (space_open(space, WORDS, roster, ROSTER) != 0) return 1;
-    if (space_put(space, WORDS, 0, 5, 4, 5, 4, entry, 2) != 0) return 2;
-    if (space_look(space, WORDS, 1, 5, -4, first, 2, result, MOST_FIELDS) != 2 || result[1] != 120) return 3;
-    if (space_take(space, WORDS, 0, 5, -4, any, 2, result, MOST_FIELDS) != 107) return 4;
+    if (space_put(space, WORDS, 0, five, 4, five, 4, entry, 2) != 0) return 2;
+    if (space_look(space, WORDS, 1, five, -4, first, 2, result, MOST_FIELDS) != 2 || result[1] != 120) return 3;
+    if (space_look(space, WORDS, 1, with_0, -4, first, 2, result, MOST_FIELDS) != 2) return 15;
+    if (space_look(space, WORDS, 1, with_9, -4, first, 2, result, MOST_FIELDS) != 107) return 16;
+    if (space_take(space, WORDS, 0, five, -4, any, 2, result, MOST_FIELDS) != 107) return 4;
     for (int i = 0; i < SHARE; i++)
-        if (space_put(space, WORDS, 1, 0, 0, 0, 0, any + 1, 1) != 105 || space_put(space, WORDS, 1, 0, 0, 0, 0, entry, 2) != 0) return 5;
-    if (space_put(space, WORDS, 1, 0, 0, 0, 0, entry, 2) != 108) return 6;
-    if (space_take(space, WORDS, 1, 5, -4, any, 2, result, MOST_FIELDS) != 2) return 7;
-    if (space_receive(space, WORDS, 1, 5, -4, any, 2, result, MOST_FIELDS) != 0) return 8;
-    if (space_put(space, WORDS, 0, 5, 4, 5, 4, key_4, 1) != 0) return 12;
-    if (space_look(space, WORDS, 1, 5, -4, any, 1, result, MOST_FIELDS) != 1 || !lacks(space, 1, key_4[0])) return 13;
-    if (space_receive(space, WORDS, 1, 5, -4, any, 1, result, MOST_FIELDS) != 1 || lacks(space, 1, key_4[0])) return 14;
+        if (space_put(space, WORDS, 1, 1, 0, 1, 0, any + 1, 1) != 105 || space_put(space, WORDS, 1, 1, 0, 1, 0, entry, 2) != 0) return 5;
+    if (space_put(space, WORDS, 1, 1, 0, 1, 0, entry, 2) != 108) return 6;
+    if (space_take(space, WORDS, 1, five, -4, any, 2, result, MOST_FIELDS) != 2) return 7;
+    if (space_receive(space, WORDS, 1, five, -4, any, 2, result, MOST_FIELDS) != 0) return 8;
+    if (space_put(space, WORDS, 0, five, 4, five, 4, key_4, 1) != 0) return 12;
+    if (space_look(space, WORDS, 1, five, -4, any, 1, result, MOST_FIELDS) != 1 || !lacks(space, 1, key_4[0])) return 13;
+    if (space_receive(space, WORDS, 1, five, -4, any, 1, result, MOST_FIELDS) != 1 || lacks(space, 1, key_4[0])) return 14;
     return 0;
 }

@@ -1,10 +1,9 @@
 //! What came of the calls with bounds, told apart by the kind of the bound.
 
 use crate::call::{is_refusal, Call, Query};
+use crate::sets::{pair_that_counts, share};
 use reference::names::{may_be_put, stored_key};
-use reference::table::{
-    row_fields, FIELD_COUNT, READ_KEY, READ_PARTITION, ROW_WORDS, TAKE_KEY, TAKE_PARTITION,
-};
+use reference::table::{row_fields, FIELD_COUNT, ROW_WORDS};
 use reference::{co_key, Field, Operation};
 
 /// What is counted, for at least and for at most.
@@ -123,12 +122,11 @@ fn searched(fields: &[u64], code: u32, result: &[u64]) -> Vec<&'static str> {
 
 /// Why a row isn't found, if one place with a bound is all that keeps it from a match.
 fn missed(operation: Operation, query: &Query, row: &[u64]) -> Vec<&'static str> {
-    let pair = match operation {
-        Operation::Take => (row[TAKE_PARTITION], row[TAKE_KEY]),
-        Operation::Look | Operation::Receive => (row[READ_PARTITION], row[READ_KEY]),
-    };
-    let key = stored_key(co_key(query.pair.key));
-    if pair != (query.pair.partition.into(), key) || row[FIELD_COUNT] != query.fields.len() as u64 {
+    let (set, key) = pair_that_counts(operation, row);
+    let count = query.fields.len() as u64;
+    if (key, row[FIELD_COUNT]) != (stored_key(co_key(query.pair.key)), count)
+        || !share(set, query.pair.set)
+    {
         return Vec::new();
     }
     let mut apart = query

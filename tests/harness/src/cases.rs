@@ -1,5 +1,5 @@
-//! The rules' cases, the examples of their refusals, a case of looks and one of bounds, with
-//! answers and words written by hand.
+//! The rules' cases, the examples of their refusals, a case of looks, one of bounds and one of
+//! sets, with answers and words written by hand.
 
 use crate::call::{answer_text, Call, Kind, Query};
 use crate::report::Report;
@@ -16,8 +16,13 @@ const KIND_6: u64 = 25_769_803_776;
 const LAST_MESSAGE: u64 = 4_294_967_295;
 const REFUSED: u32 = 100;
 
+/// A pair with the set of one partition.
 const fn pair(partition: u32, key: i32) -> Pair {
-    Pair { partition, key }
+    under(1 << partition, key)
+}
+
+const fn under(set: u64, key: i32) -> Pair {
+    Pair { set, key }
 }
 
 fn put(party: u32, pair: Pair, fields: &[u64]) -> Call {
@@ -165,8 +170,8 @@ fn looks() -> Vec<Step> {
         step(take(1, pair(5, -4), &[1]), 0),
         finds(take(1, defaults, &[1]), &[1]),
         step(look(1, pair(5, -4), &[1]), 0),
-        step(look(8, pair(64, 0), &[]), REFUSED + 2),
-        step(look(0, pair(64, 0), &[1; 9]), REFUSED + 3),
+        step(look(8, under(0, 0), &[]), REFUSED + 2),
+        step(look(0, under(0, 0), &[1; 9]), REFUSED + 3),
         step(look(0, pair(0, -32), &[KIND_6]), REFUSED + 4),
         step(look(0, pair(5, -4), &[KIND_6]), REFUSED + 5),
         step(with_short_result(Operation::Look), REFUSED + 6),
@@ -209,6 +214,55 @@ fn bounds() -> Vec<Step> {
     ]
 }
 
+/// Sets of several partitions, from the same opening: {0, 5} is 33, {0, 1, 5} is 35.
+fn sets() -> Vec<Step> {
+    let (both, one_more) = (33, 35);
+    let by_two_sets = |read, take, fields: &[u64]| Call::Put {
+        party: 0,
+        read: under(read, 4),
+        take: under(take, 4),
+        fields: fields.to_vec(),
+    };
+    let last = 1 << 63;
+    vec![
+        step(put(0, under(both, 4), &[1]), 0),
+        finds(look(1, pair(5, -4), &[1]), &[1]),
+        finds(look(1, pair(0, -4), &[1]), &[1]),
+        finds(receive(1, under(both, -4), &[1]), &[1]),
+        finds(take(1, pair(0, -4), &[1]), &[1]),
+        step(put(0, pair(5, 4), &[2]), 0),
+        finds(look(1, under(both, -4), &[2]), &[2]),
+        step(look(1, pair(0, -4), &[2]), 0),
+        finds(take(1, under(both, -4), &[2]), &[2]),
+        // Every partition of a set is held, or the call is refused.
+        step(put(0, under(one_more, 4), &[3]), REFUSED + 7),
+        step(by_two_sets(both, one_more, &[3]), REFUSED + 7),
+        step(by_two_sets(last + both, both, &[3]), REFUSED + 7),
+        step(look(1, under(one_more, -4), &[3]), REFUSED + 7),
+        step(receive(1, under(last + both, -4), &[3]), REFUSED + 7),
+        step(take(1, under(u64::MAX, -4), &[3]), REFUSED + 7),
+        // The empty set, before a bad field.
+        step(put(0, under(0, 4), &[KIND_6]), REFUSED + 4),
+        step(by_two_sets(0, both, &[KIND_6]), REFUSED + 4),
+        step(by_two_sets(both, 0, &[KIND_6]), REFUSED + 4),
+        step(look(1, under(0, -4), &[KIND_6]), REFUSED + 4),
+        step(receive(1, under(0, -4), &[KIND_6]), REFUSED + 4),
+        step(take(1, under(0, -4), &[KIND_6]), REFUSED + 4),
+        // Looks and receives go by the set for reading, takes by the other.
+        step(by_two_sets(1, 32, &[4]), 0),
+        step(look(1, pair(5, -4), &[4]), 0),
+        finds(look(1, under(both, -4), &[4]), &[4]),
+        step(take(1, pair(0, -4), &[4]), 0),
+        finds(take(1, under(both, -4), &[4]), &[4]),
+        // A pair gives no name: party 2 doesn't hold partition 5 afterwards.
+        step(put(0, under(both, 0), &[5]), 0),
+        finds(receive(2, pair(0, 0), &[5]), &[5]),
+        step(look(2, pair(5, 0), &[5]), REFUSED + 7),
+        finds(take(2, pair(0, 0), &[5]), &[5]),
+        step(look(2, under(both, 0), &[5]), REFUSED + 7),
+    ]
+}
+
 /// Makes the opening of the rules' cases: partition 5 for both, key 4 for 0 and -4 for 1.
 fn opening(system: &mut dyn Space) -> Vec<u64> {
     let mut roster = [0; 16];
@@ -247,7 +301,11 @@ fn run_case(system: &mut dyn Space, steps: &[Step]) -> Result<String, String> {
 
 /// Runs each case.
 pub fn check(report: &mut Report, who: &str, system: &mut dyn Space) {
-    let of_ours = [("of looks", looks()), ("of bounds", bounds())];
+    let of_ours = [
+        ("of looks", looks()),
+        ("of bounds", bounds()),
+        ("of sets", sets()),
+    ];
     for (name, steps) in cases().into_iter().chain(of_ours) {
         let outcome = run_case(system, &steps);
         report.check(&format!("case {name}, {who}"), outcome);

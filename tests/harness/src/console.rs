@@ -72,6 +72,19 @@ const WORD_SAYINGS: [&str; 22] = [
     "read unreadable",
 ];
 
+/// What can be said of a line with several partitions in a place of a pair, and because of them if
+/// the line is unreadable. Each must come up as well.
+const SET_SAYINGS: [&str; 8] = [
+    "set done",
+    "set found",
+    "set none",
+    "set no7",
+    "set unreadable",
+    "set in a gift unreadable",
+    "set of more than 16 readable",
+    "set of 64 readable",
+];
+
 /// Inputs of one make.
 struct Sort {
     name: &'static str,
@@ -85,7 +98,21 @@ impl Sort {
     }
 }
 
-const SORTS: [Sort; 12] = [
+const SORTS: [Sort; 14] = [
+    Sort {
+        name: "each nasty set in each place",
+        inputs: scripts::NASTY_SET_INPUTS as u64,
+        make: |_, number| scripts::nasty_set(number as usize),
+    },
+    Sort {
+        name: "sets changed at random",
+        inputs: 500,
+        make: |rng, _| {
+            let mut input = scripts::readable(rng);
+            scripts::break_set(rng, &mut input);
+            input
+        },
+    },
     Sort {
         name: "readable inputs",
         inputs: 600,
@@ -214,6 +241,7 @@ pub fn compare(report: &mut Report, program: &str) {
         .into_iter()
         .chain(BOUND_SAYINGS)
         .chain(WORD_SAYINGS)
+        .chain(SET_SAYINGS)
         .filter(|saying| !said.contains_key(saying))
         .collect();
     let outcome = match missing.is_empty() {
@@ -232,7 +260,10 @@ pub fn check_variants(report: &mut Report) {
             (0..sort.inputs).map(move |number| sort.input(SEED + index as u64, number))
         })
         .collect();
-    for variant in ConsoleVariant::SLIPS {
+    let slips = ConsoleVariant::WORD_SLIPS
+        .into_iter()
+        .chain(ConsoleVariant::SET_SLIPS);
+    for variant in slips {
         let mut inputs = inputs.iter();
         let otherwise = |input: &Vec<u8>| console_with(variant, input) != reference::console(input);
         let outcome = match inputs.position(otherwise) {
@@ -300,7 +331,7 @@ fn note_sayings(output: &[u8], said: &mut BTreeMap<&'static str, u64>) {
     }
 }
 
-/// Notes what is said of each input line, by its bounds and by its word.
+/// Notes what is said of each input line, by its bounds, by its word and by its sets.
 fn note_line_sayings(input: &[u8], output: &[u8], said: &mut BTreeMap<&'static str, u64>) {
     let (input, output) = (
         String::from_utf8_lossy(input),
@@ -308,7 +339,8 @@ fn note_line_sayings(input: &[u8], output: &[u8], said: &mut BTreeMap<&'static s
     );
     for (line, answer) in answered_lines(&input, &output) {
         let sayings = bound_sayings(line, answer).into_iter();
-        for saying in sayings.chain(word_saying(line, answer)) {
+        let sayings = sayings.chain(word_saying(line, answer));
+        for saying in sayings.chain(set_sayings(line, answer)) {
             *said.entry(saying).or_default() += 1;
         }
     }
@@ -349,6 +381,36 @@ fn word_saying(line: &str, answer: &str) -> Option<&'static str> {
     let known = WORD_SAYINGS.into_iter().find(|known| *known == saying);
     let for_word = || !alone(&format!("receive {rest}")).contains(answer);
     known.filter(|_| word != "read" || for_word())
+}
+
+/// Of an unreadable line only if it could be read with partition 0 in the place of each set.
+fn set_sayings(line: &str, answer: &str) -> Vec<&'static str> {
+    let mut items: Vec<&str> = line.split(' ').collect();
+    let [call, _, rpart, _, tpart, ..] = items[..] else {
+        return Vec::new();
+    };
+    let parts = |item: &str| item.split(':').count();
+    let most = parts(rpart).max(parts(tpart));
+    if most == 1 {
+        return Vec::new();
+    }
+    for place in [2, 4] {
+        if parts(items[place]) > 1 {
+            items[place] = "0";
+        }
+    }
+    let unreadable = answer == "unreadable";
+    if unreadable && alone(&items.join(" ")).contains(answer) {
+        return Vec::new();
+    }
+    let saying = match call {
+        "give" => format!("set in a gift {answer}"),
+        _ => format!("set {answer}"),
+    };
+    let known = SET_SAYINGS.into_iter().find(|known| *known == saying);
+    let many = (most > 16 && !unreadable).then_some("set of more than 16 readable");
+    let all = (most == 64 && !unreadable).then_some("set of 64 readable");
+    known.into_iter().chain(many).chain(all).collect()
 }
 
 /// What is printed for a line alone.

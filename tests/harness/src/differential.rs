@@ -7,6 +7,7 @@ use crate::pool::{broken_roster, Maker, Mix, Pool, ALL_PARTIES};
 use crate::report::Report;
 use crate::rng::Rng;
 use crate::rows;
+use crate::sets;
 use crate::space::Space;
 use crate::tables::{damage_at_random, damaged_table, sound_table, Damage};
 use crate::tally::Tally;
@@ -111,6 +112,7 @@ pub fn compare(report: &mut Report, who: &str, system: &mut dyn Space) {
         HAPPENINGS.to_vec(),
         bounds::ALL.concat(),
         rows::ALL.concat(),
+        sets::all(),
     ]
     .concat();
     let reached = tally.check(&expected).and_then(|text| {
@@ -170,7 +172,7 @@ fn step(duel: &mut Duel, rng: &mut Rng, step: usize, call: &Call) -> Result<u32,
 }
 
 fn run_from_opening(duel: &mut Duel, rng: &mut Rng, _round: u64) -> Result<(), String> {
-    let pool = Pool::random(rng, 3, 2);
+    let pool = Pool::random(rng, 5, 2);
     let maker = Maker {
         pool: &pool,
         parties: &ALL_PARTIES,
@@ -217,7 +219,7 @@ fn any_roster(rng: &mut Rng) -> Vec<u64> {
 }
 
 fn sound_round(duel: &mut Duel, rng: &mut Rng, _round: u64) -> Result<(), String> {
-    let pool = Pool::random(rng, 3, 2);
+    let pool = Pool::random(rng, 5, 2);
     let maker = Maker {
         pool: &pool,
         parties: &ALL_PARTIES,
@@ -236,7 +238,7 @@ fn sound_round(duel: &mut Duel, rng: &mut Rng, _round: u64) -> Result<(), String
 /// The damage is known, so that the reference's own test of soundness is tested as well.
 fn one_damage_round(duel: &mut Duel, rng: &mut Rng, round: u64) -> Result<(), String> {
     let damage = Damage::ALL[round as usize % Damage::ALL.len()];
-    let pool = Pool::random(rng, 3, 2);
+    let pool = Pool::random(rng, 5, 2);
     let (sound, damaged) = damaged_table(rng, &pool, damage);
     let broken = broken_clause(&damaged);
     if broken != Some(damage.clause()) {
@@ -275,7 +277,7 @@ pub fn refused_as_unsound(
 }
 
 fn random_damage_round(duel: &mut Duel, rng: &mut Rng, _round: u64) -> Result<(), String> {
-    let pool = Pool::random(rng, 3, 2);
+    let pool = Pool::random(rng, 5, 2);
     let maker = Maker {
         pool: &pool,
         parties: &ALL_PARTIES,
@@ -298,7 +300,7 @@ pub const LENGTHS: [usize; 11] = [0, 1, 9, 16, 17, 1_795, 1_808, 1_810, 1_823, 3
 /// A sound table cut short or made longer by zeros.
 fn length_round(duel: &mut Duel, rng: &mut Rng, round: u64) -> Result<(), String> {
     let length = LENGTHS[round as usize % LENGTHS.len()];
-    let pool = Pool::random(rng, 3, 2);
+    let pool = Pool::random(rng, 5, 2);
     let sound = sound_table(rng, &pool);
     let mut other = sound.clone();
     other.resize(length, 0);
@@ -313,7 +315,7 @@ fn length_round(duel: &mut Duel, rng: &mut Rng, round: u64) -> Result<(), String
 }
 
 fn arguments_round(duel: &mut Duel, rng: &mut Rng, _round: u64) -> Result<(), String> {
-    let pool = Pool::random(rng, 3, 2);
+    let pool = Pool::random(rng, 5, 2);
     let maker = Maker {
         pool: &pool,
         parties: &ALL_PARTIES,

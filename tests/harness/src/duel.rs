@@ -6,6 +6,7 @@ use crate::guarded::Guarded;
 use crate::pool::lacks_name_in;
 use crate::rng::Rng;
 use crate::rows;
+use crate::sets;
 use crate::space::Space;
 use crate::tally::Tally;
 use reference::table::{row_start, FIRST_ROW, LIVE, ROWS, WORDS};
@@ -120,7 +121,11 @@ impl<'a> Duel<'a> {
         for what in bounds::happenings(call, code, self.references.result.lent(), before.rows()) {
             self.tally.happened(what);
         }
-        if let Some(row) = self.row_of(call, code, &before) {
+        let row = self.row_of(call, code, &before);
+        for what in sets::happenings(call, code, &before.for_sets(call, row)) {
+            self.tally.happened(what);
+        }
+        if let Some(row) = row {
             let whats = rows::happenings(call.kind(), row, before.live);
             whats.for_each(|what| self.tally.happened(what));
         }
@@ -196,6 +201,16 @@ impl Sight {
     fn rows(&self) -> &[u64] {
         let rows = FIRST_ROW..row_start(self.live);
         self.words.get(rows).unwrap_or_default()
+    }
+
+    /// With the row that the call found, if it looked for one.
+    fn for_sets(&self, call: &Call, row: Option<usize>) -> sets::Before<'_> {
+        let found = row.filter(|_| matches!(call, Call::Find(..)));
+        sets::Before {
+            words: &self.words,
+            rows: self.rows(),
+            found: found.map(|row| &self.words[row_start(row)..row_start(row + 1)]),
+        }
     }
 
     /// Whether the rows that are left aren't just the first of those before.

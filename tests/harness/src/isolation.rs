@@ -6,10 +6,12 @@ use crate::call::{answer_text, found_fields, is_refusal, Call, Kind};
 use crate::pool::{lacks_name_in, Maker, Mix, Pool, ALL_PARTIES};
 use crate::report::Report;
 use crate::rng::Rng;
+use crate::sets::{is_of_several, share};
 use crate::space::Space;
-use reference::names::{key_bit, partition_bit, PARTIES};
-use reference::table::{live_rows, KEYS, PARTITIONS, WORDS, WRITER};
+use reference::names::{has_partition, key_bit, partition_bit, partitions_of, PARTIES};
+use reference::table::{live_rows, KEYS, PARTITIONS, READ_SET, WORDS, WRITER};
 use reference::{co_key, Operation, Pair, Reference, Variant};
+use std::cell::Cell;
 use std::collections::BTreeMap;
 
 const SEED: u64 = 5_001;
@@ -25,9 +27,13 @@ enum Premise {
     PutsInGrasp,
     TakesInGrasp,
     UnequalHoldings,
+    /// A set is taken to be in the grasp only if all of it is among the group's names.
+    GraspOfWholeSets,
+    /// Only if its smallest partition is.
+    GraspBySmallest,
 }
 
-/// A set of names, as words of holdings.
+/// Names of a group, as words of holdings.
 #[derive(Clone, Copy, Debug)]
 struct Names {
     partitions: u64,
@@ -35,10 +41,34 @@ struct Names {
 }
 
 impl Names {
-    /// Whether these contain the pair's partition and the co-key of its key, both in range.
-    fn grasp(self, pair: Pair) -> bool {
-        self.partitions & partition_bit(pair.partition) != 0
-            && self.keys & key_bit(co_key(pair.key)) != 0
+    /// Whether these contain a partition of the pair's set, and the co-key of its key.
+    fn grasp(self, premise: Premise, pair: Pair) -> bool {
+        let among = |partition: u32| has_partition(self.partitions, partition);
+        let mut partitions = partitions_of(pair.set);
+        let reached = match premise {
+            Premise::GraspOfWholeSets => partitions.all(among),
+            Premise::GraspBySmallest => partitions.next().is_some_and(among),
+            _ => partitions.any(among),
+        };
+        reached && self.have_co_key(pair.key)
+    }
+
+    fn have_co_key(self, key: i32) -> bool {
+        self.keys & key_bit(co_key(key)) != 0
+    }
+
+    /// Whether the pair is in the grasp, by one of several partitions alone.
+    fn grasp_by_one(self, pair: Pair) -> bool {
+        let partitions = partitions_of(pair.set);
+        let among = partitions.filter(|partition| has_partition(self.partitions, *partition));
+        among.count() == 1 && is_of_several(pair.set) && self.have_co_key(pair.key)
+    }
+
+    /// Whether the pair's set has something of these and something else, and the pair is out of
+    /// the grasp, by its key.
+    fn spared_by_key(self, pair: Pair) -> bool {
+        let in_part = share(pair.set, self.partitions) && share(pair.set, !self.partitions);
+        in_part && !self.have_co_key(pair.key)
     }
 
     fn contain(self, partitions: u64, keys: u64) -> bool {
@@ -88,12 +118,9 @@ impl Group {
     }
 
     /// Whether an unrefused call from elsewhere is a put or a take in the group's grasp.
-    fn grasps(&self, call: &Call) -> bool {
-        match call {
-            Call::Put { read, take, .. } => self.names.grasp(*read) || self.names.grasp(*take),
-            Call::Find(Operation::Take, query) => self.names.grasp(query.pair),
-            Call::Find(..) | Call::Open { .. } => false,
-        }
+    fn grasps(&self, premise: Premise, call: &Call) -> bool {
+        let mut pairs = premise_pairs(call).into_iter();
+        pairs.any(|pair| self.names.grasp(premise, pair))
     }
 
     /// Whether a call from elsewhere that got this answer is as the premise asks.
@@ -103,7 +130,31 @@ impl Group {
             Kind::TAKE => premise == Premise::TakesInGrasp,
             _ => false,
         };
-        broken_on_purpose || is_refusal(code) || !self.grasps(call)
+        broken_on_purpose || is_refusal(code) || !self.grasps(premise, call)
+    }
+
+    /// Whether an unrefused call would be in the grasp only by one of several partitions of a set.
+    fn grasps_by_one(&self, call: &Call, code: u32) -> bool {
+        let reached = |pair: &Pair| self.names.grasp(Premise::Kept, *pair);
+        let by_one = |pair: Pair| self.names.grasp_by_one(pair);
+        let mut pairs = premise_pairs(call).into_iter().filter(reached).peekable();
+        !is_refusal(code) && pairs.peek().is_some() && pairs.all(by_one)
+    }
+
+    /// Whether a set of an unrefused call overlaps the group's names in part, and its key keeps it
+    /// out of the grasp.
+    fn spares_by_key(&self, call: &Call, code: u32) -> bool {
+        let mut pairs = premise_pairs(call).into_iter();
+        !is_refusal(code) && pairs.any(|pair| self.names.spared_by_key(pair))
+    }
+}
+
+/// The pairs of a call from elsewhere that the premise is about.
+fn premise_pairs(call: &Call) -> Vec<Pair> {
+    match call {
+        Call::Put { read, take, .. } => vec![*read, *take],
+        Call::Find(Operation::Take, query) => vec![query.pair],
+        Call::Find(..) | Call::Open { .. } => Vec::new(),
     }
 }
 
@@ -119,6 +170,8 @@ struct Twins {
     group: Group,
     premise: Premise,
     runs: [Run; 2],
+    /// Calls from elsewhere that were not made, since they were in the grasp by one partition.
+    left_out_by_one: u64,
 }
 
 /// Builds runs call by call, looking at what the reference makes of them.
@@ -127,6 +180,7 @@ struct Builder<'a> {
     group: &'a Group,
     premise: Premise,
     mix: Mix,
+    left_out_by_one: Cell<u64>,
 }
 
 impl Builder<'_> {
@@ -175,6 +229,9 @@ impl Builder<'_> {
             if foreign && self.group.allows(self.premise, &call, code) {
                 return Some(call);
             }
+            let by_one = foreign && self.group.grasps_by_one(&call, code);
+            let left_out = self.left_out_by_one.get() + u64::from(by_one);
+            self.left_out_by_one.set(left_out);
         }
         None
     }
@@ -217,6 +274,7 @@ fn build_twins(rng: &mut Rng, premise: Premise) -> Twins {
             receives: 10,
             broken: 4,
         },
+        left_out_by_one: Cell::default(),
     };
     let [first_roster, second_roster] = rosters;
     let mut left = match group.members.is_empty() {
@@ -231,6 +289,7 @@ fn build_twins(rng: &mut Rng, premise: Premise) -> Twins {
     let second = builder.run(rng, second_roster, |_, _| groups.next().cloned());
     Twins {
         premise,
+        left_out_by_one: builder.left_out_by_one.get(),
         runs: [first, second],
         group,
     }
@@ -292,6 +351,18 @@ impl Counts {
 }
 
 const ROWS_DIFFER: &str = "pairs with the group's entries in different rows at the end";
+const SPARED_BY_KEY: &str =
+    "runs with a set from elsewhere that overlaps the group's in part, spared by its key";
+const LEFT_OUT_BY_ONE: &str =
+    "calls from elsewhere left out, in the grasp by one of several partitions";
+/// Looks and receives: whether they are the group's.
+const FOUND_BY_ANOTHER: [(bool, &str); 2] = [
+    (true, "looks and receives of the group found by another set"),
+    (
+        false,
+        "looks and receives from elsewhere found by another set",
+    ),
+];
 const REFUSED: [(bool, &str); 2] = [
     (true, "calls of the group refused"),
     (false, "calls from elsewhere refused"),
@@ -383,9 +454,8 @@ impl Twins {
             }
             rows.push(self.group_rows(&space));
         }
-        if rows[0] != rows[1] {
-            counts.add(ROWS_DIFFER);
-        }
+        counts.add_if(ROWS_DIFFER, rows[0] != rows[1]);
+        *counts.0.entry(LEFT_OUT_BY_ONE).or_default() += self.left_out_by_one;
         match first_difference(&seen[0], &seen[1]) {
             Some(text) => Outcome::Different(text),
             None => Outcome::Alike,
@@ -403,6 +473,7 @@ impl Twins {
         let run = &self.runs[number];
         let opened = system.open(space, &run.roster);
         let mut sights = vec![self.sight(space, opened, &[])];
+        let mut spared = false;
         self.check_names(number, 0, space)?;
         for (index, call) in run.calls.iter().enumerate() {
             // What the result held before is free, so it is different in every run.
@@ -416,14 +487,16 @@ impl Twins {
                 sights.push(self.sight(space, code, fields));
             } else {
                 self.check_premise(number, index + 1, call, code)?;
+                spared |= self.group.spares_by_key(call, code);
             }
         }
+        counts.add_if(SPARED_BY_KEY, spared);
         sights.push(self.sight(space, 0, &[]));
         Ok(sights)
     }
 
-    /// Notes which names a look has found, and whose entry a look or a receive. Neither changes a
-    /// row, so that the space afterwards tells it.
+    /// Notes which names a look has found, and whose entry a look or a receive, and by which set.
+    /// Neither changes a row, so that the space afterwards tells it.
     fn note_found(&self, counts: &mut Counts, call: &Call, space: &[u64], fields: &[u64]) {
         let Call::Find(operation, query) = call else {
             return;
@@ -441,6 +514,15 @@ impl Twins {
         let groups_entry = found.is_some_and(|index| self.group_rows(space).contains(&index));
         for (kind, what) in ENTRIES_OF_GROUP {
             counts.add_if(what, !of_group && kind == *operation && groups_entry);
+        }
+        let mut rows = live_rows(space);
+        let entrys = found
+            .and_then(|index| rows.nth(index))
+            .map(|row| row[READ_SET]);
+        let other_set = entrys.is_some_and(|set| set != query.pair.set);
+        for (groups, what) in FOUND_BY_ANOTHER {
+            let such = groups == of_group && *operation != Operation::Take;
+            counts.add_if(what, such && other_set);
         }
     }
 
@@ -542,7 +624,8 @@ fn isolation(system: &mut dyn Space) -> Result<String, String> {
         .chain(REFUSED.map(|(_, what)| what))
         .chain(NAMES_LOOKED_AT.map(|(_, what)| what))
         .chain(ENTRIES_OF_GROUP.map(|(_, what)| what))
-        .chain([ROWS_DIFFER]);
+        .chain(FOUND_BY_ANOTHER.map(|(_, what)| what))
+        .chain([ROWS_DIFFER, SPARED_BY_KEY, LEFT_OUT_BY_ONE]);
     for what in expected {
         if counts.of(what) == 0 {
             return Err(format!("seed {SEED}: never happened: {what}"));
@@ -579,6 +662,8 @@ pub fn check(report: &mut Report, who: &str, system: &mut dyn Space) {
         Premise::PutsInGrasp,
         Premise::TakesInGrasp,
         Premise::UnequalHoldings,
+        Premise::GraspOfWholeSets,
+        Premise::GraspBySmallest,
     ] {
         let outcome = differing_pairs(system, CONTROL_SEED, premise);
         report.check(&format!("isolation, {who}: control {premise:?}"), outcome);
@@ -596,6 +681,10 @@ pub fn check_variants(report: &mut Report) {
         Variant::LookNeedsNoNames,
         Variant::ReceiveRemoves,
         Variant::BoundedMatchesAllPartitions,
+        Variant::OneHeldIsEnough,
+        Variant::SmallestHeldIsEnough,
+        Variant::HeldBelow32IsEnough,
+        Variant::HeldByAnybodyIsEnough,
     ] {
         let mut system = Reference::with(variant);
         let outcome = differing_pairs(&mut system, VARIANT_SEED, Premise::Kept);

@@ -29,6 +29,8 @@ mod roster_files;
 mod roster_tally;
 mod rows;
 mod scripts;
+mod sets;
+mod singles;
 mod space;
 mod tables;
 mod tally;
@@ -91,12 +93,14 @@ fn run_part(report: &mut Report, part: &str) -> Result<(), &'static str> {
             differential::compare(report, "reference", &mut reference);
             rows::compare(report, "reference", &mut reference);
             looks::check(report, "reference", &mut reference);
+            singles::check(report, "reference", &mut reference);
             isolation::check(report, "reference", &mut reference);
         }
         "variants" => {
             variants::check(report);
             rows::check_variants(report);
             looks::check_variants(report);
+            singles::check_variants(report);
             isolation::check_variants(report);
             console::check_variants(report);
             roster::check_variants(report);
@@ -107,6 +111,7 @@ fn run_part(report: &mut Report, part: &str) -> Result<(), &'static str> {
             rows::compare(report, "library", library()?.as_mut());
             looks::check(report, "library", library()?.as_mut());
             looks::check_closed(report, look()?);
+            singles::check(report, "library", library()?.as_mut());
         }
         "isolation" => isolation::check(report, "library", library()?.as_mut()),
         "console" => {

@@ -2,13 +2,12 @@
 
 use crate::call::{Call, Kind, Query};
 use crate::rng::Rng;
+use crate::sets::pair_that_counts;
 use reference::names::{
-    key_bit, key_of_stored, partition_bit, LAST_KEY, LAST_PARTITION, MOST_FIELDS, PARTIES,
+    has_partition, key_bit, key_of_stored, partition_bit, partitions_of, LAST_KEY, LAST_PARTITION,
+    MOST_FIELDS, PARTIES,
 };
-use reference::table::{
-    row_fields, row_start, KEYS, LIVE, PARTITIONS, READ_KEY, READ_PARTITION, ROSTER_WORDS,
-    ROW_WORDS, TAKE_KEY, TAKE_PARTITION,
-};
+use reference::table::{row_fields, row_start, KEYS, LIVE, PARTITIONS, ROSTER_WORDS, ROW_WORDS};
 use reference::{co_key, Field, Operation, Pair};
 
 /// Field and result counts go up to this.
@@ -92,12 +91,44 @@ impl Pool {
         .word()
     }
 
+    /// One partition of the pool or some; seldom with others that hardly anybody holds.
+    pub fn set(&self, rng: &mut Rng) -> u64 {
+        let one = partition_bit(rng.pick(&self.partitions));
+        match rng.below(100) {
+            0..50 => one,
+            50..92 => one | self.holdings(rng, 50).0,
+            92..96 => one | some_set(rng),
+            _ => some_set(rng),
+        }
+    }
+
     pub fn pair(&self, rng: &mut Rng) -> Pair {
         Pair {
-            partition: rng.pick(&self.partitions),
+            set: self.set(rng),
             key: rng.pick(&self.keys),
         }
     }
+}
+
+/// Any set but the empty one, and above all such as stand at an end of something.
+fn some_set(rng: &mut Rng) -> u64 {
+    let one = partition_bit(any_partition(rng));
+    let other = partition_bit(any_partition(rng));
+    let any = one | rng.word();
+    rng.pick(&[
+        one,
+        one,
+        one | other,
+        one | other,
+        any,
+        u64::MAX,
+        !one,
+        1 << 63,
+    ])
+}
+
+fn any_partition(rng: &mut Rng) -> u32 {
+    rng.below(LAST_PARTITION as usize + 1) as u32
 }
 
 /// How often which calls are made, in a hundred.
@@ -203,12 +234,9 @@ impl Maker<'_> {
 
     /// A template that matches this row, or nearly so.
     fn query_for_row(&self, rng: &mut Rng, space: &[u64], op: Operation, row: &[u64]) -> Query {
-        let (partition, stored) = match op {
-            Operation::Take => (row[TAKE_PARTITION], row[TAKE_KEY]),
-            Operation::Look | Operation::Receive => (row[READ_PARTITION], row[READ_KEY]),
-        };
+        let (set, stored) = pair_that_counts(op, row);
         let pair = Pair {
-            partition: partition as u32,
+            set: self.template_set(rng, set),
             key: co_key(key_of_stored(stored).expect("a sound row stores a key")),
         };
         let party = self.party_that_holds(rng, space, pair);
@@ -221,6 +249,24 @@ impl Maker<'_> {
             pair,
             result_len: rng.between(fields.len(), MOST_WORDS),
             fields,
+        }
+    }
+
+    /// The row's set, or another that mostly shares a partition with it.
+    fn template_set(&self, rng: &mut Rng, entrys: u64) -> u64 {
+        let partitions: Vec<u32> = partitions_of(entrys).collect();
+        let one = partition_bit(rng.pick(&partitions));
+        match rng.below(100) {
+            0..40 => entrys,
+            40..60 => one,
+            60..80 => one | self.pool.set(rng),
+            80..88 => one | entrys & rng.word(),
+            // Of the pool, but nothing that the row has, if there is such a set.
+            88..94 => match self.pool.set(rng) & !entrys {
+                0 => one,
+                others => others,
+            },
+            _ => self.pool.set(rng),
         }
     }
 
@@ -262,10 +308,7 @@ impl Maker<'_> {
             }
         }
         match rng.percent(80) {
-            true => Pair {
-                partition: 0,
-                key: 0,
-            },
+            true => Pair::of_one(0, 0),
             false => self.pool.pair(rng),
         }
     }
@@ -281,20 +324,32 @@ impl Maker<'_> {
     }
 }
 
-fn holds_pair(space: &[u64], party: u32, pair: Pair) -> bool {
-    let party = party as usize;
-    party < PARTIES
-        && space[PARTITIONS + party] & partition_bit(pair.partition) != 0
-        && space[KEYS + party] & key_bit(pair.key) != 0
+fn holds_partition(space: &[u64], party: u32, partition: u32) -> bool {
+    (party as usize) < PARTIES && has_partition(space[PARTITIONS + party as usize], partition)
+}
+
+pub fn holds_key(space: &[u64], party: u32, key: i32) -> bool {
+    (party as usize) < PARTIES && space[KEYS + party as usize] & key_bit(key) != 0
+}
+
+/// How many partitions of a set a party holds, and how many it doesn't.
+pub fn held_of(space: &[u64], party: u32, set: u64) -> (usize, usize) {
+    let held = partitions_of(set).filter(|partition| holds_partition(space, party, *partition));
+    let held = held.count();
+    (held, partitions_of(set).count() - held)
+}
+
+/// Whether a party holds every partition of the set, and the key.
+pub fn holds_pair(space: &[u64], party: u32, pair: Pair) -> bool {
+    holds_key(space, party, pair.key) && held_of(space, party, pair.set).1 == 0
 }
 
 fn holds_names_of(space: &[u64], party: u32, word: u64) -> bool {
-    let pair = match Field::from_word(word) {
-        Some(Field::Partition(partition)) => Pair { partition, key: 0 },
-        Some(Field::Key(key)) => Pair { partition: 0, key },
-        _ => return true,
-    };
-    holds_pair(space, party, pair)
+    match Field::from_word(word) {
+        Some(Field::Partition(partition)) => holds_partition(space, party, partition),
+        Some(Field::Key(key)) => holds_key(space, party, key),
+        _ => true,
+    }
 }
 
 /// Whether these fields carry a name that the party doesn't hold.
@@ -355,7 +410,7 @@ fn break_pair(rng: &mut Rng, call: &mut Call) {
     let any = rng.word();
     let pair = some_pair(rng, call);
     if rng.percent(50) {
-        pair.partition = rng.pick(&[64, 65, 128, 256, 320, 1 << 31, u32::MAX, any as u32]);
+        pair.set = 0;
     } else {
         let ends = [i32::MIN, i32::MIN + 1, i32::MAX, any as i32];
         let near = [-33, -32, 32, 33, 63, 64, -64, 256, -256, 65_536];
@@ -400,18 +455,21 @@ fn break_result(rng: &mut Rng, call: &mut Call) {
     }
 }
 
+fn any_key(rng: &mut Rng) -> i32 {
+    rng.below(2 * LAST_KEY as usize + 1) as i32 - LAST_KEY
+}
+
 fn any_pair(rng: &mut Rng) -> Pair {
     Pair {
-        partition: rng.below(LAST_PARTITION as usize + 1) as u32,
-        key: rng.below(2 * LAST_KEY as usize + 1) as i32 - LAST_KEY,
+        set: some_set(rng),
+        key: any_key(rng),
     }
 }
 
 fn any_name(rng: &mut Rng) -> u64 {
-    let pair = any_pair(rng);
     match rng.percent(50) {
-        true => Field::Partition(pair.partition).word(),
-        false => Field::Key(pair.key).word(),
+        true => Field::Partition(any_partition(rng)).word(),
+        false => Field::Key(any_key(rng)).word(),
     }
 }
 

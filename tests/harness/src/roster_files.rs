@@ -228,7 +228,7 @@ fn lines_with_every_byte() -> Vec<Vec<u8>> {
 }
 
 /// Items at the ends of what is readable and in range, and past them.
-const NASTY_ITEMS: [&str; 94] = [
+const NASTY_ITEMS: [&str; 97] = [
     "",
     "-",
     "--",
@@ -289,6 +289,9 @@ const NASTY_ITEMS: [&str; 94] = [
     "1.0",
     ".5",
     "1,",
+    "5:9",
+    "5:",
+    ":5",
     "1_0",
     "'5'",
     "\"5\"",

@@ -8,11 +8,11 @@ use crate::report::Report;
 use crate::rng::Rng;
 use crate::space::Space;
 use reference::names::{
-    co_key, stored_key, LAST_KEY, LAST_PARTITION, LAST_STORED_KEY, MOST_FIELDS, PARTIES,
+    co_key, set_of, stored_key, LAST_KEY, LAST_PARTITION, LAST_STORED_KEY, MOST_FIELDS, PARTIES,
 };
 use reference::table::{
-    row_start, FIELDS, FIELD_COUNT, KEYS, LIVE, PARTITIONS, READ_KEY, READ_PARTITION, ROWS,
-    ROW_WORDS, TAKE_KEY, TAKE_PARTITION, WORDS, WRITER,
+    row_start, FIELDS, FIELD_COUNT, KEYS, LIVE, PARTITIONS, READ_KEY, READ_SET, ROWS, ROW_WORDS,
+    TAKE_KEY, TAKE_SET, WORDS, WRITER,
 };
 use reference::{Field, Operation, Pair, Reference, Step, Variant};
 
@@ -62,22 +62,31 @@ pub fn happenings(kind: Kind, row: usize, live: usize) -> impl Iterator<Item = &
 
 /// The entry of a row. Every word but the field count differs from that of the rows beside it.
 struct Entry {
+    row: usize,
     party: u32,
     read: Pair,
     take: Pair,
     fields: [u64; MOST_FIELDS],
 }
 
+/// How far the pair for taking is from that for reading.
+const TAKEN_FROM: usize = 32;
+
+fn partition(number: usize) -> u32 {
+    (number % (LAST_PARTITION as usize + 1)) as u32
+}
+
 impl Entry {
     fn of(row: usize) -> Entry {
         let pair = |number: usize| Pair {
-            partition: (number % (LAST_PARTITION as usize + 1)) as u32,
+            set: set_of([0, 1, 21].map(|step| partition(number + step))),
             key: (number % (2 * LAST_KEY as usize + 1)) as i32 - LAST_KEY,
         };
         Entry {
+            row,
             party: (row % PARTIES) as u32,
             read: pair(row),
-            take: pair(row + 32),
+            take: pair(row + TAKEN_FROM),
             fields: std::array::from_fn(|place| (1_000 + MOST_FIELDS * row + place) as u64),
         }
     }
@@ -85,9 +94,9 @@ impl Entry {
     fn words(&self) -> [u64; ROW_WORDS] {
         let mut row = [0; ROW_WORDS];
         row[WRITER] = self.party.into();
-        row[READ_PARTITION] = self.read.partition.into();
+        row[READ_SET] = self.read.set;
         row[READ_KEY] = stored_key(self.read.key);
-        row[TAKE_PARTITION] = self.take.partition.into();
+        row[TAKE_SET] = self.take.set;
         row[TAKE_KEY] = stored_key(self.take.key);
         row[FIELD_COUNT] = MOST_FIELDS as u64;
         row[FIELDS..].copy_from_slice(&self.fields);
@@ -103,20 +112,17 @@ impl Entry {
         }
     }
 
-    /// With a template that no other row matches.
+    /// With a template that no other row matches, and one partition of the row's set.
     fn find(&self, operation: Operation) -> Call {
-        let pair = match operation {
-            Operation::Take => self.take,
-            Operation::Look | Operation::Receive => self.read,
+        let (pair, number) = match operation {
+            Operation::Take => (self.take, self.row + TAKEN_FROM),
+            Operation::Look | Operation::Receive => (self.read, self.row),
         };
         let mut fields = [Field::Wildcard.word(); MOST_FIELDS];
         fields[0] = self.fields[0];
         let query = Query {
             party: self.party,
-            pair: Pair {
-                partition: pair.partition,
-                key: co_key(pair.key),
-            },
+            pair: Pair::of_one(partition(number), co_key(pair.key)),
             fields: fields.to_vec(),
             result_len: MOST_FIELDS,
         };
@@ -198,7 +204,7 @@ fn damaged(
 fn bad_word(place: usize) -> u64 {
     match place {
         WRITER => PARTIES as u64,
-        READ_PARTITION | TAKE_PARTITION => u64::from(LAST_PARTITION) + 1,
+        READ_SET | TAKE_SET => 0,
         READ_KEY | TAKE_KEY => LAST_STORED_KEY + 1,
         FIELD_COUNT => MOST_FIELDS as u64 + 1,
         _ => Field::Wildcard.word(),

@@ -4,9 +4,11 @@ use crate::call::Call;
 use crate::pool::{Maker, Mix, Pool, ALL_PARTIES};
 use crate::rng::Rng;
 use reference::console::{INPUT_NAMES, MOST_FIELDS_IN_LINE};
-use reference::names::{key_bit, key_in_range, key_of_stored, partition_bit, PARTIES};
+use reference::names::{
+    key_bit, key_in_range, key_of_stored, partition_bit, partitions_of, LAST_PARTITION, PARTIES,
+};
 use reference::table::{ROSTER_WORDS, WORDS};
-use reference::{Field, Pair, Reference};
+use reference::{Field, Reference};
 
 /// Items and fields at the ends of what is readable, and just past them.
 const NASTY_ITEMS: [&str; 57] = [
@@ -147,6 +149,100 @@ const NASTY_FIELDS: [&str; 76] = [
     "l18446744073709551616",
 ];
 
+/// Sets as they may be written and as they may not, on either side of each limit.
+const NASTY_SETS: [&str; 79] = [
+    "0",
+    "5",
+    "9",
+    "63",
+    "64",
+    "65",
+    "99",
+    "100",
+    "5:9",
+    "0:5:63",
+    "0:1",
+    "31:32",
+    "62:63",
+    "0:63",
+    "5:5",
+    "9:5",
+    "5:9:9",
+    "5:5:9",
+    "9:5:10",
+    "5:10:9",
+    "10:9",
+    "63:0",
+    "63:62",
+    "5:",
+    ":5",
+    ":",
+    "::",
+    "5::9",
+    "5:9:",
+    ":5:9",
+    "5:::9",
+    "05",
+    "00",
+    "0:00",
+    "5:09",
+    "05:9",
+    "5:063",
+    "5:64",
+    "64:65",
+    "0:64",
+    "5:9:64",
+    "5:99",
+    "+5",
+    "-5",
+    "5:+9",
+    "5:-9",
+    "-0",
+    "0:-0",
+    "5: 9",
+    "5 :9",
+    "5 9",
+    " 5",
+    "5:9 ",
+    "5,9",
+    "5;9",
+    "5.9",
+    "5-9",
+    "5/9",
+    "5|9",
+    "a",
+    "5:a",
+    "p5",
+    "5:p9",
+    "k4",
+    "m1",
+    "0x5",
+    "5:9a",
+    "{5}",
+    "-",
+    "--",
+    "5:-",
+    "-:5",
+    "4294967301",
+    "5:4294967305",
+    "18446744073709551621",
+    "5:18446744073709551625",
+    "340282366920938463463374607431768211461",
+    "544",
+    "",
+];
+/// Where a set may stand, and in a gift a single partition.
+const SET_LINES: [&str; 6] = [
+    "put 0 {} 4 5 4 m1",
+    "put 0 5 4 {} 4 m1",
+    "look 0 {} 0 - - *",
+    "receive 0 {} 0 - - *",
+    "take 0 {} 0 - - *",
+    "give 0 {} - - - -",
+];
+/// So many more sets: of partition 0, of 0 and 1, and on to two more than there are.
+const SETS_OF_MANY: usize = LAST_PARTITION as usize + 3;
+
 /// A readable input: the names line, some gives, some calls. The calls come from the reference's
 /// space as it then is, so that many of them find something.
 pub fn readable(rng: &mut Rng) -> Vec<u8> {
@@ -210,7 +306,7 @@ impl Script {
         let mut text = format!("{INPUT_NAMES}\n");
         for _ in 0..rng.pick(&[0, 1, 8, 24]) {
             let party = rng.below(PARTIES);
-            let Pair { partition, key } = pool.pair(rng);
+            let (partition, key) = (rng.pick(&pool.partitions), rng.pick(&pool.keys));
             let (mut partition_text, mut key_text) = ("-".to_string(), "-".to_string());
             if rng.percent(85) {
                 roster[party] |= partition_bit(partition);
@@ -263,16 +359,22 @@ fn call_text(call: &Call) -> Option<String> {
         Call::Open { .. } => return None,
         Call::Put {
             party, read, take, ..
-        } => format!(
-            "put {party} {} {} {} {} {fields}\n",
-            read.partition, read.key, take.partition, take.key
-        ),
+        } => {
+            let [read_set, take_set] = [set_text(read.set)?, set_text(take.set)?];
+            let (read_key, take_key) = (read.key, take.key);
+            format!("put {party} {read_set} {read_key} {take_set} {take_key} {fields}\n")
+        }
         Call::Find(_, query) => {
-            let Pair { partition, key } = query.pair;
-            let word = call.kind().word();
-            format!("{word} {} {partition} {key} - - {fields}\n", query.party)
+            let (word, set) = (call.kind().word(), set_text(query.pair.set)?);
+            let (party, key) = (query.party, query.pair.key);
+            format!("{word} {party} {set} {key} - - {fields}\n")
         }
     })
+}
+
+/// A set as text; the empty one has none.
+fn set_text(set: u64) -> Option<String> {
+    (set != 0).then(|| joined(partitions_of(set)))
 }
 
 fn fields_text(words: &[u64]) -> Option<String> {
@@ -326,6 +428,8 @@ const MOST_LISTED: usize = 20;
 
 /// How many inputs `nasty_item` has.
 pub const NASTY_ITEM_INPUTS: usize = ITEM_LINES.len() * ITEMS * NASTY_ITEMS.len();
+/// How many inputs `nasty_set` has.
+pub const NASTY_SET_INPUTS: usize = SET_LINES.len() * (NASTY_SETS.len() + SETS_OF_MANY);
 /// How many inputs `nasty_field` has.
 pub const NASTY_FIELD_INPUTS: usize = FIELD_LINES.len() * SHAPES.len() * NASTY_FIELDS.len();
 /// How many inputs `field_count` has.
@@ -337,6 +441,21 @@ pub fn nasty_item(number: usize) -> Vec<u8> {
     let mut items: Vec<&str> = ITEM_LINES[rest / ITEMS].split(' ').collect();
     items[rest % ITEMS] = NASTY_ITEMS[item];
     around(&items.join(" "))
+}
+
+/// Each nasty set, and those of 0 to so many, in each place of a pair and in a gift, by number.
+pub fn nasty_set(number: usize) -> Vec<u8> {
+    let sets = NASTY_SETS.len() + SETS_OF_MANY;
+    let set = match NASTY_SETS.get(number % sets) {
+        Some(set) => set.to_string(),
+        None => joined(0..=(number % sets - NASTY_SETS.len()) as u32),
+    };
+    around(&SET_LINES[number / sets].replace("{}", &set))
+}
+
+fn joined(partitions: impl IntoIterator<Item = u32>) -> String {
+    let parts: Vec<String> = partitions.into_iter().map(|at| at.to_string()).collect();
+    parts.join(":")
 }
 
 /// Each nasty field alone, before and after another in each kind of call, by number.
@@ -406,6 +525,40 @@ fn break_fields(rng: &mut Rng, fields: &str) -> String {
     fields.join(",")
 }
 
+/// Changes the text of a set, or of a gift's partition; seldom it can still be read.
+pub fn break_set(rng: &mut Rng, input: &mut Vec<u8>) {
+    change_line(rng, input, |rng, line| {
+        let mut items: Vec<String> = line.split(' ').map(str::to_string).collect();
+        let place = match line.starts_with("put") {
+            true => rng.pick(&[2, 4]),
+            false => 2,
+        };
+        items[place] = broken_set(rng, &items[place]);
+        items.join(" ")
+    });
+}
+
+fn broken_set(rng: &mut Rng, set: &str) -> String {
+    let mut parts: Vec<String> = set.split(':').map(str::to_string).collect();
+    let (place, other) = (rng.below(parts.len()), rng.below(parts.len()));
+    match rng.below(10) {
+        0 => parts.insert(rng.below(place + 1), String::new()),
+        1 => parts.push(String::new()),
+        2 => parts.insert(place, parts[other].clone()),
+        3 => parts.swap(place, other),
+        4 => parts.reverse(),
+        5 => parts[place].insert(0, rng.pick(&['0', '+', '-', ' ', 'p', '1', ':'])),
+        6 => parts[place].push(rng.pick(&['0', '1', '9', 'a', '-', ' ', ','])),
+        7 => parts[place] = rng.pick(&NASTY_SETS).to_string(),
+        8 => parts.push(rng.below(LAST_PARTITION as usize + 3).to_string()),
+        _ => {
+            let separator = rng.pick(&[",", ";", " ", ".", "::", ""]);
+            return parts.join(separator);
+        }
+    }
+    parts.join(":")
+}
+
 /// Breaks the shape of a line, or the order of lines.
 pub fn break_line(rng: &mut Rng, input: &mut Vec<u8>) {
     change_line(rng, input, |rng, line| match rng.below(12) {
@@ -450,7 +603,7 @@ pub fn noise(rng: &mut Rng) -> Vec<u8> {
         true => format!("{INPUT_NAMES}\n").into_bytes(),
         false => Vec::new(),
     };
-    let alphabet = b"\n \t-,*mpkgl0123456789 putreadkgivmloc\n";
+    let alphabet = b"\n \t-,:*mpkgl0123456789 putreadkgivmloc\n";
     for _ in 0..rng.below(200) {
         let any = rng.word() as u8;
         let likely = rng.pick(alphabet);

@@ -7,7 +7,7 @@ use reference::names::{
 };
 use reference::table::{
     row_start, rows_of_writer, FIELDS, FIELD_COUNT, FIRST_ROW, KEYS, LIMIT, LIVE, PARTITIONS,
-    READ_KEY, READ_PARTITION, ROWS, ROW_WORDS, TAKE_KEY, TAKE_PARTITION, WORDS, WRITER,
+    READ_KEY, READ_SET, ROWS, ROW_WORDS, TAKE_KEY, TAKE_SET, WORDS, WRITER,
 };
 use reference::{Clause, Field};
 
@@ -49,9 +49,9 @@ fn fill_row(rng: &mut Rng, pool: &Pool, writer: u64, row: &mut [u64]) {
     let take = pool.pair(rng);
     let count = pool.count(rng);
     row[WRITER] = writer;
-    row[READ_PARTITION] = u64::from(read.partition);
+    row[READ_SET] = read.set;
     row[READ_KEY] = stored_key(read.key);
-    row[TAKE_PARTITION] = u64::from(take.partition);
+    row[TAKE_SET] = take.set;
     row[TAKE_KEY] = stored_key(take.key);
     row[FIELD_COUNT] = count as u64;
     for word in &mut row[FIELDS..FIELDS + count] {
@@ -59,7 +59,7 @@ fn fill_row(rng: &mut Rng, pool: &Pool, writer: u64, row: &mut [u64]) {
     }
 }
 
-/// Ways to break exactly one clause of "sound".
+/// Ways to break one clause of "sound", and all but one of them no other.
 #[derive(Clone, Copy, Debug, PartialEq, Eq)]
 pub enum Damage {
     LiveAbove128,
@@ -69,9 +69,9 @@ pub enum Damage {
     NoDefaultKey,
     KeyBit63,
     Writer,
-    ReadPartition,
+    ReadSetEmpty,
     ReadKey,
-    TakePartition,
+    TakeSetEmpty,
     TakeKey,
     FieldCountZero,
     FieldCountHigh,
@@ -97,9 +97,9 @@ impl Damage {
         Damage::NoDefaultKey,
         Damage::KeyBit63,
         Damage::Writer,
-        Damage::ReadPartition,
+        Damage::ReadSetEmpty,
         Damage::ReadKey,
-        Damage::TakePartition,
+        Damage::TakeSetEmpty,
         Damage::TakeKey,
         Damage::FieldCountZero,
         Damage::FieldCountHigh,
@@ -116,19 +116,20 @@ impl Damage {
         Damage::LastWord,
     ];
 
-    /// The one clause that this breaks.
+    /// The first clause that this breaks: the only one, but that a row of zeros which counts as
+    /// live has empty sets and no field.
     pub fn clause(self) -> Clause {
         match self {
             Damage::LiveAbove128 => Clause::LiveCount,
-            Damage::LiveOneTooMany => Clause::FieldCount,
+            Damage::LiveOneTooMany => Clause::ReadSet,
             Damage::LiveOneTooFew => Clause::RowsPastLive,
             Damage::NoDefaultPartition => Clause::DefaultPartition,
             Damage::NoDefaultKey => Clause::DefaultKey,
             Damage::KeyBit63 => Clause::KeyBit63,
             Damage::Writer => Clause::Writer,
-            Damage::ReadPartition => Clause::ReadPartition,
+            Damage::ReadSetEmpty => Clause::ReadSet,
             Damage::ReadKey => Clause::ReadKey,
-            Damage::TakePartition => Clause::TakePartition,
+            Damage::TakeSetEmpty => Clause::TakeSet,
             Damage::TakeKey => Clause::TakeKey,
             Damage::FieldCountZero | Damage::FieldCountHigh => Clause::FieldCount,
             Damage::FieldKindHigh
@@ -197,9 +198,9 @@ impl Damage {
         let kind_and_more = |kind: u64, low: u64| (kind << 32) | (low & u64::from(u32::MAX));
         match self {
             Damage::Writer => row[WRITER] = above(rng, PARTIES as u64 - 1),
-            Damage::ReadPartition => row[READ_PARTITION] = above(rng, LAST_PARTITION.into()),
+            Damage::ReadSetEmpty => row[READ_SET] = 0,
             Damage::ReadKey => row[READ_KEY] = above(rng, LAST_STORED_KEY),
-            Damage::TakePartition => row[TAKE_PARTITION] = above(rng, LAST_PARTITION.into()),
+            Damage::TakeSetEmpty => row[TAKE_SET] = 0,
             Damage::TakeKey => row[TAKE_KEY] = above(rng, LAST_STORED_KEY),
             Damage::FieldCountZero => row[FIELD_COUNT..].fill(0),
             Damage::FieldCountHigh => row[FIELD_COUNT] = above(rng, MOST_FIELDS as u64),
@@ -338,7 +339,7 @@ mod tests {
     }
 
     #[test]
-    fn damage_breaks_its_clause_alone() {
+    fn damage_breaks_its_clause() {
         for damage in Damage::ALL {
             for run in 0..200 {
                 let mut rng = Rng::new(2, run);
@@ -348,7 +349,13 @@ mod tests {
                     .into_iter()
                     .filter(|clause| !clause.holds(&damaged))
                     .collect();
-                assert_eq!(broken, [damage.clause()], "{damage:?}");
+                let due: &[Clause] = match damage {
+                    Damage::LiveOneTooMany => {
+                        &[Clause::ReadSet, Clause::TakeSet, Clause::FieldCount]
+                    }
+                    _ => &[damage.clause()],
+                };
+                assert_eq!(broken, due, "{damage:?}");
             }
         }
     }

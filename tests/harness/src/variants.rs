@@ -11,6 +11,7 @@ pub fn check(report: &mut Report) {
         .chain(Variant::SLIPS)
         .chain(Variant::OPERATION_SLIPS)
         .chain(Variant::BOUND_SLIPS)
+        .chain(Variant::SET_SLIPS)
         .chain(Variant::ROW_SLIPS)
         .chain(Variant::skipped_clauses());
     for variant in wrong {

@@ -2,13 +2,14 @@
 
 use crate::answer::Answer;
 use crate::names::{
-    co_key, key_bit, key_of_stored, may_be_put, partition_bit, stored_key, Field, Pair,
-    LAST_PARTITION, MOST_FIELDS, PARTIES,
+    co_key, has_partition, key_bit, key_in_range, key_of_stored, may_be_put, partition_bit,
+    stored_key, Field, Pair, LAST_PARTITION, MOST_FIELDS, PARTIES,
 };
+use crate::sets::Place;
 use crate::table::{
-    all_field_words, has_bit_63, row_fields, row_start, Clause, FIELDS, FIELD_COUNT, KEYS, LIMIT,
-    LIVE, PARTITIONS, READ_KEY, READ_PARTITION, ROSTER_WORDS, ROWS, ROW_WORDS, TAKE_KEY,
-    TAKE_PARTITION, WORDS, WRITER,
+    all_field_words, all_words, has_bit_63, row_fields, row_start, Clause, FIELDS, FIELD_COUNT,
+    KEYS, LIMIT, LIVE, PARTITIONS, READ_KEY, READ_SET, ROSTER_WORDS, ROWS, ROW_WORDS, TAKE_KEY,
+    TAKE_SET, WORDS, WRITER,
 };
 use crate::variant::{Step, Variant};
 
@@ -86,9 +87,12 @@ impl Reference {
         let start = self.variant.starts(Step::Put).of(live);
         let row = &mut space[start..start + ROW_WORDS];
         row[WRITER] = u64::from(party);
-        row[READ_PARTITION] = u64::from(read.partition);
+        row[READ_SET] = read.set;
         row[READ_KEY] = stored_key(read.key);
-        row[TAKE_PARTITION] = u64::from(take.partition);
+        row[TAKE_SET] = match self.variant {
+            Variant::PutsReadSetTwice => read.set,
+            _ => take.set,
+        };
         row[TAKE_KEY] = stored_key(take.key);
         row[FIELD_COUNT] = fields.len() as u64;
         row[FIELDS..FIELDS + fields.len()].copy_from_slice(fields);
@@ -111,7 +115,8 @@ impl Reference {
         let Some(index) = self.matching_row(operation, space, query) else {
             return Answer::None;
         };
-        let writer = space[row_start(index) + WRITER] as usize;
+        let start = row_start(index);
+        let (writer, set) = (space[start + WRITER] as usize, space[start + READ_SET]);
         let found = row_fields(self.variant.starts(Step::Fields).row(space, index)).to_vec();
         if result.len() < found.len() {
             // Only a blunder gets here: TestsResultLate, or fields that are another row's.
@@ -123,6 +128,9 @@ impl Reference {
             match self.variant {
                 Variant::GivesNamesOfTemplate => self.give_names(space, party, query.fields),
                 _ => self.give_names(space, party, &found),
+            }
+            if self.variant == Variant::GivesReadSet {
+                space[PARTITIONS + party] |= set;
             }
         }
         if self.removes(operation) {
@@ -164,15 +172,15 @@ impl Reference {
         if let Some(number) = self.first_refusal(None, space, party, fields) {
             return Some(number);
         }
-        if !read.in_range() || !take.in_range() {
+        if !self.in_range(Place::Read, read) || !self.in_range(Place::Take, take) {
             return Some(4);
         }
         if !fields.iter().all(|word| self.may_be_put(*word)) {
             return Some(5);
         }
         let party = party as usize;
-        if !holds_pair(space, party, read)
-            || !holds_pair(space, party, take)
+        if !self.holds_pair(space, party, read)
+            || !self.holds_pair(space, party, take)
             || !holds_names_in(space, party, fields)
         {
             return Some(7);
@@ -199,7 +207,7 @@ impl Reference {
         if let Some(number) = self.first_refusal(Some(operation), space, party, fields) {
             return Some(number);
         }
-        if !pair.in_range() {
+        if !self.in_range(Place::Template, pair) {
             return Some(4);
         }
         if fields
@@ -212,7 +220,7 @@ impl Reference {
             return Some(6);
         }
         let party = party as usize;
-        let holds = holds_pair(space, party, pair)
+        let holds = self.holds_pair(space, party, pair)
             && holds_names_in(space, party, fields)
             && !self.misses_partition(space, party, fields);
         if !holds && (self.variant, operation) != (Variant::LookNeedsNoNames, Operation::Look) {
@@ -221,17 +229,32 @@ impl Reference {
         None
     }
 
+    /// Whether a pair that a call names there is in range.
+    fn in_range(&self, place: Place, pair: Pair) -> bool {
+        self.variant.may_name(place, pair.set) && key_in_range(pair.key)
+    }
+
+    fn holds_pair(&self, space: &[u64], party: usize, pair: Pair) -> bool {
+        self.variant.holds_set(space, party, pair.set) && holds_key(space, party, pair.key)
+    }
+
     fn sound(&self, operation: Option<Operation>, space: &[u64]) -> bool {
+        let starts = self.variant.starts(Step::Sound);
+        let sets_at = |at: usize| {
+            let such = |word| self.variant.may_be_set_in_row(word);
+            all_words(starts, space, at, such)
+        };
         Clause::ALL
             .into_iter()
             .filter(|clause| !self.skips(operation, *clause))
             .all(|clause| match clause {
+                Clause::ReadSet => sets_at(READ_SET),
+                Clause::TakeSet => sets_at(TAKE_SET),
                 Clause::FieldWords => {
-                    let starts = self.variant.starts(Step::Sound);
                     all_field_words(starts, space, |word| self.may_be_in_row(word))
                 }
                 Clause::RowsPastLive => clause.holds_by(self.variant.starts(Step::PastLive), space),
-                _ => clause.holds_by(self.variant.starts(Step::Sound), space),
+                _ => clause.holds_by(starts, space),
             })
     }
 
@@ -300,14 +323,15 @@ impl Reference {
 
     /// The four conditions of a match.
     fn matches(&self, operation: Operation, row: &[u64], query: Query) -> bool {
-        let (partition, key) = match self.goes_by_take_pair(operation) {
-            true => (row[TAKE_PARTITION], row[TAKE_KEY]),
-            false => (row[READ_PARTITION], row[READ_KEY]),
+        let (set, key) = match self.goes_by_take_pair(operation) {
+            true if self.variant == Variant::TakeTestsReadSet => (row[READ_SET], row[TAKE_KEY]),
+            true => (row[TAKE_SET], row[TAKE_KEY]),
+            false => (row[READ_SET], row[READ_KEY]),
         };
         row[FIELD_COUNT] == query.fields.len() as u64
-            && self.fields_agree(row_fields(row), query.fields)
-            && self.partition_agrees(partition, query.pair.partition, query.fields)
             && self.key_agrees(key, query.pair.key)
+            && self.fields_agree(row_fields(row), query.fields)
+            && self.sets_agree(set, query.pair.set, query.fields)
     }
 
     /// Only a take goes by the take pair.
@@ -386,14 +410,14 @@ impl Reference {
         })
     }
 
-    fn partition_agrees(&self, entrys: u64, templates: u32, template: &[u64]) -> bool {
+    fn sets_agree(&self, entrys: u64, templates: u64, template: &[u64]) -> bool {
         let blunder = match self.variant {
-            Variant::DefaultPartitionMatchesAll => templates == 0,
+            Variant::DefaultPartitionMatchesAll => has_partition(templates, 0),
             Variant::WildcardsMatchPartition => template.iter().all(|word| is_wildcard(*word)),
             Variant::BoundedMatchesAllPartitions => template.iter().any(|word| is_bound(*word)),
             _ => false,
         };
-        blunder || entrys == u64::from(templates)
+        blunder || self.variant.sets_agree(entrys, templates)
     }
 
     fn key_agrees(&self, entrys_stored: u64, templates: i32) -> bool {
@@ -489,15 +513,11 @@ fn is_bound(word: u64) -> bool {
 }
 
 fn holds_partition(space: &[u64], party: usize, partition: u32) -> bool {
-    space[PARTITIONS + party] & partition_bit(partition) != 0
+    has_partition(space[PARTITIONS + party], partition)
 }
 
 fn holds_key(space: &[u64], party: usize, key: i32) -> bool {
     space[KEYS + party] & key_bit(key) != 0
-}
-
-fn holds_pair(space: &[u64], party: usize, pair: Pair) -> bool {
-    holds_partition(space, party, pair.partition) && holds_key(space, party, pair.key)
 }
 
 /// Whether the party holds each partition and key carried in these fields.

@@ -4,7 +4,7 @@ use crate::answer::Answer;
 use crate::calls::{Operation, Query, Reference};
 use crate::console_variant::ConsoleVariant;
 use crate::names::{
-    key_bit, key_in_range, partition_bit, Field, Pair, LAST_PARTITION, MOST_FIELDS, PARTIES,
+    key_bit, key_in_range, set_of, Field, Pair, LAST_PARTITION, MOST_FIELDS, PARTIES,
 };
 use crate::table::{ROSTER_WORDS, WORDS};
 
@@ -65,7 +65,8 @@ fn lines(input: &[u8]) -> impl Iterator<Item = Option<&[u8]>> {
 enum Line {
     Give {
         party: usize,
-        partition: Option<u32>,
+        /// One, or more by a blunder.
+        partitions: Vec<u32>,
         key: Option<i32>,
     },
     Put {
@@ -112,22 +113,18 @@ impl Session {
         let line = parse_line(self.variant, text)?;
         if let Line::Give {
             party,
-            partition,
+            partitions,
             key,
         } = line
         {
             if self.space.is_some() {
                 return None;
             }
-            self.give(party, partition, key);
+            self.roster[party] |= set_of(partitions);
+            self.roster[PARTIES + party] |= key.map_or(0, key_bit);
             return Some(String::new());
         }
         Some(self.call(&line))
-    }
-
-    fn give(&mut self, party: usize, partition: Option<u32>, key: Option<i32>) {
-        self.roster[party] |= partition.map_or(0, partition_bit);
-        self.roster[PARTIES + party] |= key.map_or(0, key_bit);
     }
 
     fn call(&mut self, line: &Line) -> String {
@@ -185,25 +182,26 @@ fn parse_line(variant: ConsoleVariant, text: &[u8]) -> Option<Line> {
     match call {
         b"give" => {
             all_absent(&[tpart, tkey, fields])?;
-            parse_give(party, rpart, rkey)
+            parse_give(variant, party, rpart, rkey)
         }
         b"put" => Some(Line::Put {
             party: parse_number(party)?,
-            read: parse_pair(rpart, rkey)?,
-            take: parse_pair(tpart, tkey)?,
+            read: parse_pair(variant, rpart, rkey)?,
+            take: parse_pair(variant, tpart, tkey)?,
             fields: parse_fields(fields)?,
         }),
-        _ => parse_find(variant.operation(call)?, &items),
+        _ => parse_find(variant, &items),
     }
 }
 
 /// A look, a receive or a take names one pair.
-fn parse_find(operation: Operation, items: &[&[u8]]) -> Option<Line> {
+fn parse_find(variant: ConsoleVariant, items: &[&[u8]]) -> Option<Line> {
+    let operation = variant.operation(items[0])?;
     all_absent(&items[4..6])?;
     Some(Line::Find {
         operation,
         party: parse_number(items[1])?,
-        pair: parse_pair(items[2], items[3])?,
+        pair: parse_pair(variant, items[2], items[3])?,
         fields: parse_fields(items[6])?,
     })
 }
@@ -217,31 +215,46 @@ fn all_absent(items: &[&[u8]]) -> Option<()> {
 }
 
 /// Unlike in a call, everything in a give must be in its range.
-fn parse_give(party: &[u8], partition: &[u8], key: &[u8]) -> Option<Line> {
+fn parse_give(variant: ConsoleVariant, party: &[u8], names: &[u8], key: &[u8]) -> Option<Line> {
     let party = parse_number(party)? as usize;
-    let partition = match is_absent(partition) {
-        true => None,
-        false => Some(parse_number(partition)?),
+    let partitions = match is_absent(names) {
+        true => Vec::new(),
+        false if variant == ConsoleVariant::GivesSets => parse_partitions(names)?,
+        false => vec![parse_partition(names)?],
     };
     let key = match is_absent(key) {
         true => None,
         false => Some(parse_key(key)?),
     };
-    let in_range = party < PARTIES
-        && partition.is_none_or(|partition| partition <= LAST_PARTITION)
-        && key.is_none_or(key_in_range);
+    let in_range = party < PARTIES && key.is_none_or(key_in_range);
     in_range.then_some(Line::Give {
         party,
-        partition,
+        partitions,
         key,
     })
 }
 
-fn parse_pair(partition: &[u8], key: &[u8]) -> Option<Pair> {
+fn parse_pair(variant: ConsoleVariant, set: &[u8], key: &[u8]) -> Option<Pair> {
+    let partitions = match variant.is_empty_set(set) {
+        true => Vec::new(),
+        false => parse_partitions(&variant.respelled(set))?,
+    };
     Some(Pair {
-        partition: parse_number(partition)?,
+        set: set_of(partitions),
         key: parse_key(key)?,
     })
+}
+
+/// Reads the partitions of a set: one or more, joined by colons, each above the one before it.
+fn parse_partitions(text: &[u8]) -> Option<Vec<u32>> {
+    let parts = text.split(|byte| *byte == b':').map(parse_partition);
+    let partitions: Vec<u32> = parts.collect::<Option<_>>()?;
+    let rising = partitions.windows(2).all(|two| two[0] < two[1]);
+    rising.then_some(partitions)
+}
+
+fn parse_partition(text: &[u8]) -> Option<u32> {
+    parse_number(text).filter(|partition| *partition <= LAST_PARTITION)
 }
 
 /// Reads decimal digits without a leading zero, as a number of at most ten digits.

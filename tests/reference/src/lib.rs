@@ -12,6 +12,7 @@ pub mod console_variant;
 pub mod names;
 pub mod roster;
 pub mod roster_variant;
+mod sets;
 pub mod table;
 pub mod variant;
 

@@ -1,4 +1,4 @@
-//! Parties, partitions, keys, and the words that carry them as fields.
+//! Parties, partitions and sets of them, keys, and the words that carry names as fields.
 
 /// Parties are 0 to 7.
 pub const PARTIES: usize = 8;
@@ -14,17 +14,37 @@ pub const MOST_FIELDS: usize = 8;
 /// A kind is worth this much in a field word.
 const KIND: u64 = 4_294_967_296;
 
-/// A partition with a key, as a call names them: not yet known to be in range.
+/// A set of partitions with a key, as a call names them: not yet known to be in range.
 #[derive(Clone, Copy, Debug, PartialEq, Eq)]
 pub struct Pair {
-    pub partition: u32,
+    pub set: u64,
     pub key: i32,
 }
 
 impl Pair {
-    pub fn in_range(self) -> bool {
-        self.partition <= LAST_PARTITION && key_in_range(self.key)
+    /// With a set of one partition, which is in range.
+    pub fn of_one(partition: u32, key: i32) -> Pair {
+        Pair {
+            set: partition_bit(partition),
+            key,
+        }
     }
+}
+
+/// Whether a word that is a set, or is laid out like one, has this partition.
+pub fn has_partition(word: u64, partition: u32) -> bool {
+    word >> partition & 1 == 1
+}
+
+/// The partitions of a set, smallest first.
+pub fn partitions_of(set: u64) -> impl DoubleEndedIterator<Item = u32> {
+    (0..=LAST_PARTITION).filter(move |partition| has_partition(set, *partition))
+}
+
+/// The set of these partitions, which are in range.
+pub fn set_of(partitions: impl IntoIterator<Item = u32>) -> u64 {
+    let bits = partitions.into_iter().map(partition_bit);
+    bits.fold(0, |set, bit| set | bit)
 }
 
 pub fn key_in_range(key: i32) -> bool {
@@ -46,7 +66,7 @@ pub fn key_of_stored(stored: u64) -> Option<i32> {
     (stored <= LAST_STORED_KEY).then(|| stored as i32 - LAST_KEY)
 }
 
-/// The bit of a holdings word that stands for a partition in range.
+/// The bit of a holdings word, or of a set, that stands for a partition in range.
 pub fn partition_bit(partition: u32) -> u64 {
     1 << partition
 }

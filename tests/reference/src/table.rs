@@ -1,8 +1,6 @@
 //! The 1,809 words of a space: what stands where, and when they are sound.
 
-use crate::names::{
-    key_bit, may_be_put, partition_bit, LAST_PARTITION, LAST_STORED_KEY, MOST_FIELDS, PARTIES,
-};
+use crate::names::{key_bit, may_be_put, partition_bit, LAST_STORED_KEY, MOST_FIELDS, PARTIES};
 
 /// The length of a space.
 pub const WORDS: usize = 1_809;
@@ -25,9 +23,9 @@ pub const LIMIT: usize = 16;
 
 // Where things stand in a row.
 pub const WRITER: usize = 0;
-pub const READ_PARTITION: usize = 1;
+pub const READ_SET: usize = 1;
 pub const READ_KEY: usize = 2;
-pub const TAKE_PARTITION: usize = 3;
+pub const TAKE_SET: usize = 3;
 pub const TAKE_KEY: usize = 4;
 pub const FIELD_COUNT: usize = 5;
 pub const FIELDS: usize = 6;
@@ -118,9 +116,9 @@ pub enum Clause {
     DefaultKey,
     KeyBit63,
     Writer,
-    ReadPartition,
+    ReadSet,
     ReadKey,
-    TakePartition,
+    TakeSet,
     TakeKey,
     FieldCount,
     FieldWords,
@@ -137,9 +135,9 @@ impl Clause {
         Clause::DefaultKey,
         Clause::KeyBit63,
         Clause::Writer,
-        Clause::ReadPartition,
+        Clause::ReadSet,
         Clause::ReadKey,
-        Clause::TakePartition,
+        Clause::TakeSet,
         Clause::TakeKey,
         Clause::FieldCount,
         Clause::FieldWords,
@@ -165,13 +163,9 @@ impl Clause {
             Clause::DefaultKey => key_words(space).iter().all(|held| held & key_bit(0) != 0),
             Clause::KeyBit63 => key_words(space).iter().all(|held| !has_bit_63(*held)),
             Clause::Writer => live_rows().all(|row| row[WRITER] < PARTIES as u64),
-            Clause::ReadPartition => {
-                live_rows().all(|row| row[READ_PARTITION] <= u64::from(LAST_PARTITION))
-            }
+            Clause::ReadSet => all_words(starts, space, READ_SET, has_some),
             Clause::ReadKey => live_rows().all(|row| row[READ_KEY] <= LAST_STORED_KEY),
-            Clause::TakePartition => {
-                live_rows().all(|row| row[TAKE_PARTITION] <= u64::from(LAST_PARTITION))
-            }
+            Clause::TakeSet => all_words(starts, space, TAKE_SET, has_some),
             Clause::TakeKey => live_rows().all(|row| row[TAKE_KEY] <= LAST_STORED_KEY),
             Clause::FieldCount => {
                 live_rows().all(|row| (1..=MOST_FIELDS as u64).contains(&row[FIELD_COUNT]))
@@ -187,6 +181,16 @@ impl Clause {
             Clause::RowsPastLive => starts.clear_past_live(space),
         }
     }
+}
+
+/// Whether a set has a partition: the empty one is 0.
+pub fn has_some(set: u64) -> bool {
+    set > 0
+}
+
+/// Whether the words at this place of all live rows are such.
+pub fn all_words(starts: Starts, space: &[u64], at: usize, such: impl Fn(u64) -> bool) -> bool {
+    starts.live_rows(space).all(|row| such(row[at]))
 }
 
 /// Whether all field words in use are such.

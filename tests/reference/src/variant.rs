@@ -39,9 +39,12 @@ pub enum Variant {
     ComparesKeyNotCoKey,
     /// Tests the read pair in a take.
     TakeTestsReadPair,
-    /// Lets the default partition of a template match every partition.
+    /// The rules with a partition in the place of each set, and compared for equality: no blunder,
+    /// but what rule M7 compares with. The set of a pair is then the number of a partition.
+    SinglePartitions,
+    /// Lets a template with the default partition match every set.
     DefaultPartitionMatchesAll,
-    /// Lets a template of wildcards alone match every partition.
+    /// Lets a template of wildcards alone match every set.
     WildcardsMatchPartition,
     /// A take lowers the writer's charge and raises the taker's.
     ChargesTaker,
@@ -101,7 +104,7 @@ pub enum Variant {
     AtMostAgreesWithKey,
     /// Takes at most for a partition when it asks what the party holds.
     AtMostNamesPartition,
-    /// Lets a template with a bound match every partition.
+    /// Lets a template with a bound match every set.
     BoundedMatchesAllPartitions,
     /// Lets a put carry at least.
     PutsAtLeast,
@@ -113,6 +116,62 @@ pub enum Variant {
     AtLeastInRowIsSound,
     /// Takes a row with at most for sound.
     AtMostInRowIsSound,
+    /// Takes sets for agreeing only where they are the same.
+    SetsMustBeEqual,
+    /// Only where all of the template's is in the entry's.
+    TemplatesMustBeWithin,
+    /// Only where all of the entry's is in the template's.
+    EntrysMustBeWithin,
+    /// Only where the smallest partition of each is the same.
+    SmallestMustBeShared,
+    /// Only where the smallest of the template's is in the entry's.
+    SmallestOfTemplates,
+    /// Only where the smallest of the entry's is in the template's.
+    SmallestOfEntrys,
+    /// Only where they share a partition below 32.
+    SharedBelow32,
+    /// Only where they share a partition below 63.
+    Partition63IsNotShared,
+    /// Goes by the read set in a take, and by the take key.
+    TakeTestsReadSet,
+    /// Stores the set for reading in both pairs.
+    PutsReadSetTwice,
+    /// Asks for one partition of a set to be held.
+    OneHeldIsEnough,
+    /// Asks for the smallest.
+    SmallestHeldIsEnough,
+    /// Asks for the largest.
+    LargestHeldIsEnough,
+    /// Asks for those below 32.
+    HeldBelow32IsEnough,
+    /// Asks for each to be held, by whomever.
+    HeldByAnybodyIsEnough,
+    /// A receive or a take gives the partitions of the entry's set for reading.
+    GivesReadSet,
+    /// Lets a put name the empty set for reading.
+    PutsEmptyReadSet,
+    /// Lets a put name the empty set for taking.
+    PutsEmptyTakeSet,
+    /// Lets a template name the empty set.
+    SeeksEmptySet,
+    /// Refuses by 4 a set of several partitions.
+    RefusesSeveral,
+    /// Refuses by 4 the set of all.
+    RefusesAll,
+    /// Refuses by 4 a set with partition 63.
+    RefusesPartition63,
+    /// Refuses by 4 what would be above 63 as a number.
+    RefusesWordsAbove63,
+    /// Refuses by 4 a set without a partition below 32.
+    RefusesNoneBelow32,
+    /// Takes a row with a set of several for unsound.
+    SeveralInRowAreUnsound,
+    /// Takes a row with partition 63 in a set for unsound.
+    Partition63InRowIsUnsound,
+    /// Takes a row with a set that would be above 63 as a number for unsound.
+    WordAbove63InRowIsUnsound,
+    /// Takes a row with a set without a partition below 32 for unsound.
+    NoneBelow32InRowIsUnsound,
     /// Leaves the last live row where it is, and as it was, when the rows close up.
     LeavesLastRow,
     /// Closes up to the start of the last live row and clears it, so that its entry is lost.
@@ -183,6 +242,38 @@ impl Variant {
         Variant::KindSixIsWildcard,
         Variant::AtLeastInRowIsSound,
         Variant::AtMostInRowIsSound,
+    ];
+
+    /// Slips about sets. Those that take an empty set in a row for sound are skipped clauses.
+    pub const SET_SLIPS: [Variant; 28] = [
+        Variant::SetsMustBeEqual,
+        Variant::TemplatesMustBeWithin,
+        Variant::EntrysMustBeWithin,
+        Variant::SmallestMustBeShared,
+        Variant::SmallestOfTemplates,
+        Variant::SmallestOfEntrys,
+        Variant::SharedBelow32,
+        Variant::Partition63IsNotShared,
+        Variant::TakeTestsReadSet,
+        Variant::PutsReadSetTwice,
+        Variant::OneHeldIsEnough,
+        Variant::SmallestHeldIsEnough,
+        Variant::LargestHeldIsEnough,
+        Variant::HeldBelow32IsEnough,
+        Variant::HeldByAnybodyIsEnough,
+        Variant::GivesReadSet,
+        Variant::PutsEmptyReadSet,
+        Variant::PutsEmptyTakeSet,
+        Variant::SeeksEmptySet,
+        Variant::RefusesSeveral,
+        Variant::RefusesAll,
+        Variant::RefusesPartition63,
+        Variant::RefusesWordsAbove63,
+        Variant::RefusesNoneBelow32,
+        Variant::SeveralInRowAreUnsound,
+        Variant::Partition63InRowIsUnsound,
+        Variant::WordAbove63InRowIsUnsound,
+        Variant::NoneBelow32InRowIsUnsound,
     ];
 
     /// Slips about where rows start and end, in the first row, one in the middle and the last.

@@ -1,8 +1,11 @@
-//! The rules' twelve cases, looks, the small examples of their table of refusals, and the bounds.
+//! The rules' twelve cases, looks, the small examples of their table of refusals, the bounds, and
+//! sets of partitions.
 
-use reference::names::{key_bit, partition_bit, stored_key};
-use reference::table::{broken_clause, row_start, FIELDS, KEYS, LIVE, PARTITIONS, WORDS};
-use reference::{co_key, Answer, Clause, Field, Operation, Pair, Query, Reference};
+use reference::names::{key_bit, partition_bit, partitions_of, set_of, stored_key};
+use reference::table::{
+    broken_clause, row_start, FIELDS, KEYS, LIVE, PARTITIONS, READ_SET, TAKE_SET, WORDS,
+};
+use reference::{co_key, Answer, Clause, Field, Operation, Pair, Query, Reference, Variant};
 
 const WILDCARD: u64 = 12_884_901_888;
 /// The words of the kinds 4 to 6 with the number 0.
@@ -10,22 +13,11 @@ const AT_LEAST: u64 = 17_179_869_184;
 const AT_MOST: u64 = 21_474_836_480;
 const KIND_6: u64 = 25_769_803_776;
 const LAST_MESSAGE: u64 = 4_294_967_295;
-const DEFAULT: Pair = Pair {
-    partition: 0,
-    key: 0,
-};
-const HERE: Pair = Pair {
-    partition: 5,
-    key: 4,
-};
-const THERE: Pair = Pair {
-    partition: 5,
-    key: -4,
-};
-const LOW_KEY: Pair = Pair {
-    partition: 0,
-    key: -32,
-};
+/// Of partition 0 and of partition 5.
+const DEFAULT: Pair = Pair { set: 1, key: 0 };
+const HERE: Pair = Pair { set: 32, key: 4 };
+const THERE: Pair = Pair { set: 32, key: -4 };
+const LOW_KEY: Pair = Pair { set: 1, key: -32 };
 
 /// The opening of the cases: party 0 holds 5 and 4, party 1 holds 5 and -4.
 fn opening() -> Vec<u64> {
@@ -132,7 +124,7 @@ fn rows_stand_where_the_layout_says() {
         assert_eq!(put(&mut space, party, DEFAULT, &[number; 8]), Answer::Done);
     }
     for (start, number) in [(17, 0), (31, 1), (913, 64), (1_795, 127)] {
-        assert_eq!(space[start..start + 6], [number / 16, 0, 31, 0, 31, 8]);
+        assert_eq!(space[start..start + 6], [number / 16, 1, 31, 1, 31, 8]);
         assert_eq!(space[start + 6..start + 14], [number; 8]);
     }
     let mut template = [WILDCARD; 8];
@@ -414,4 +406,156 @@ fn row_with_a_bound_is_unsound() {
         assert_eq!(look(&mut space, 0, DEFAULT, &[1, WILDCARD]), refused);
         assert_eq!(take(&mut space, 0, DEFAULT, &[1, bound]), refused);
     }
+}
+
+#[test]
+fn words_of_sets() {
+    assert_eq!(set_of([5]), 32);
+    assert_eq!(set_of([5, 9]), 544);
+    assert_eq!(set_of([]), 0);
+    assert_eq!(set_of(0..64), u64::MAX);
+    for set in [0, 1, 32, 544, 1 << 63, u64::MAX, 0x8000_0001_0000_0001] {
+        assert_eq!(set_of(partitions_of(set)), set);
+    }
+}
+
+/// An opening in which parties 0 and 1 hold every partition and key, party 2 holds 5 and 9, and
+/// party 3 all but 9.
+fn opening_for_sets() -> Vec<u64> {
+    let mut roster = [0; 16];
+    roster[..2].fill(u64::MAX);
+    roster[2] = 544;
+    roster[3] = u64::MAX - 512;
+    roster[8..10].fill(u64::MAX >> 1);
+    let mut space = vec![0; WORDS];
+    assert_eq!(Reference::correct().open(&mut space, &roster), Answer::Done);
+    space
+}
+
+fn with_set(set: u64) -> Pair {
+    Pair { set, key: 0 }
+}
+
+#[test]
+fn sets_that_share_a_partition() {
+    let sets: [&[u32]; 9] = [
+        &[0],
+        &[5],
+        &[9],
+        &[5, 9],
+        &[0, 9, 63],
+        &[31, 32],
+        &[32, 63],
+        &[63],
+        &[1, 2, 3, 4],
+    ];
+    for entrys in sets {
+        for templates in sets {
+            let shared = entrys.iter().any(|partition| templates.contains(partition));
+            let due = match shared {
+                true => Answer::Found(1),
+                false => Answer::None,
+            };
+            let [entry, template] = [entrys, templates].map(|set| set_of(set.iter().copied()));
+            let mut space = opening_for_sets();
+            let (read, take_pair) = (with_set(entry), with_set(u64::MAX));
+            let put = Reference::correct().put(&mut space, 0, read, take_pair, &[7]);
+            assert_eq!(put, Answer::Done);
+            let found = look(&mut space, 1, with_set(template), &[7]).0;
+            assert_eq!(found, due, "{entrys:?}, {templates:?}");
+            // By the take pair every set shares a partition with that of all.
+            let taken = take(&mut space, 1, with_set(template), &[7]).0;
+            assert_eq!(taken, Answer::Found(1));
+            let put = Reference::correct().put(&mut space, 0, take_pair, read, &[7]);
+            assert_eq!(put, Answer::Done);
+            let taken = take(&mut space, 1, with_set(template), &[7]).0;
+            assert_eq!(taken, due, "{entrys:?}, {templates:?}");
+        }
+    }
+}
+
+#[test]
+fn every_partition_of_a_set_is_held() {
+    for (party, set, due) in [
+        (2, 32, Answer::Done),
+        (2, 512, Answer::Done),
+        (2, 544, Answer::Done),
+        (2, 545, Answer::Done),
+        (2, 546, Answer::Refused(7)),
+        (2, u64::MAX, Answer::Refused(7)),
+        (2, 544 + (1 << 63), Answer::Refused(7)),
+        (3, 544, Answer::Refused(7)),
+        (3, u64::MAX - 512, Answer::Done),
+        (3, u64::MAX, Answer::Refused(7)),
+        (1, u64::MAX, Answer::Done),
+    ] {
+        let mut space = opening_for_sets();
+        let mut reference = Reference::correct();
+        for (read, take) in [(set, 1), (1, set), (set, set)] {
+            let answer = reference.put(&mut space, party, with_set(read), with_set(take), &[7]);
+            assert_eq!(answer, due, "{party}, {set}");
+        }
+        let none = match due {
+            Answer::Done => Answer::None,
+            refused => refused,
+        };
+        let (found, _) = look(&mut space, party, with_set(set), &[8]);
+        assert_eq!(found, none, "{party}, {set}");
+    }
+}
+
+#[test]
+fn empty_sets_are_out_of_range() {
+    let mut space = opening_for_sets();
+    let before = space.clone();
+    let mut reference = Reference::correct();
+    for (read, take) in [(0, 1), (1, 0), (0, 0)] {
+        // A bad field and a key that isn't held come after.
+        let answer = reference.put(&mut space, 4, with_set(read), with_set(take), &[KIND_6]);
+        assert_eq!(answer, Answer::Refused(4));
+    }
+    let refused = (Answer::Refused(4), [99; 8]);
+    assert_eq!(look(&mut space, 4, with_set(0), &[KIND_6]), refused);
+    assert_eq!(take(&mut space, 4, with_set(0), &[KIND_6]), refused);
+    assert_eq!(space, before);
+}
+
+#[test]
+fn row_with_an_empty_set_is_unsound() {
+    for (place, clause) in [(READ_SET, Clause::ReadSet), (TAKE_SET, Clause::TakeSet)] {
+        let mut space = opening_for_sets();
+        assert_eq!(put(&mut space, 0, with_set(544), &[7]), Answer::Done);
+        for sound in [1, 31, 64, 1 << 63, u64::MAX] {
+            space[row_start(0) + place] = sound;
+            assert_eq!(broken_clause(&space), None);
+        }
+        space[row_start(0) + place] = 0;
+        assert_eq!(broken_clause(&space), Some(clause));
+        let refused = (Answer::Refused(1), [99; 8]);
+        assert_eq!(look(&mut space, 0, DEFAULT, &[7]), refused);
+        assert_eq!(take(&mut space, 0, DEFAULT, &[7]), refused);
+    }
+}
+
+/// With numbers of partitions in the place of sets, the rules' cases come out the same.
+#[test]
+fn single_partitions() {
+    let mut by_numbers = Reference::with(Variant::SinglePartitions);
+    let mut space = opening();
+    let pair = |set, key| Pair { set, key };
+    let done = by_numbers.put(&mut space, 0, pair(5, 4), pair(5, 4), &[7, 120]);
+    assert_eq!(done, Answer::Done);
+    let mut find = |pair| {
+        let query = Query {
+            party: 1,
+            pair,
+            fields: &[7, WILDCARD],
+        };
+        by_numbers.find(Operation::Receive, &mut space, query, &mut [99; 8])
+    };
+    assert_eq!(find(pair(5, -4)), Answer::Found(2));
+    assert_eq!(find(pair(0, -4)), Answer::None);
+    assert_eq!(find(pair(9, -4)), Answer::Refused(7));
+    assert_eq!(find(pair(64, -4)), Answer::Refused(4));
+    assert_eq!(space[row_start(0) + READ_SET], 5);
 }

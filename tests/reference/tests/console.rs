@@ -82,8 +82,10 @@ fn readable_and_refused() {
         ),
         ("put 8 0 0 0 0 -", "no2"),
         ("put 4294967295 0 0 0 0 m0", "no2"),
-        ("put 0 64 0 0 0 m0", "no4"),
-        ("put 0 0 0 4294967295 0 m0", "no4"),
+        ("put 0 0:5 0 0 0 m0", "no7"),
+        ("put 0 0 0 0:1:2:3:63 0 m0", "no7"),
+        ("put 0 0:5 32 0 0 m0", "no4"),
+        ("put 8 0:5 0 5:9 0 m0", "no2"),
         ("put 0 0 -2147483648 0 0 m0", "no4"),
         ("put 0 0 0 0 2147483647 m0", "no4"),
         ("put 0 0 -31 0 0 m0", "no7"),
@@ -96,7 +98,9 @@ fn readable_and_refused() {
         ("receive 0 0 0 - - *", "none"),
         ("receive 8 0 0 - - *", "no2"),
         ("receive 0 0 0 - - -", "no3"),
-        ("receive 0 64 0 - - *", "no4"),
+        ("receive 0 0 32 - - *", "no4"),
+        ("receive 0 0:63 0 - - *", "no7"),
+        ("take 8 30:31:32 0 - - *", "no2"),
         ("receive 0 0 0 - - p64", "no5"),
         ("receive 0 5 0 - - *", "no7"),
         ("take 0 0 0 - - p0,k0,m4294967295", "none"),
@@ -142,6 +146,10 @@ fn unreadable_lines() {
         "put 0 0 -2147483649 0 0 m0",
         "put 4294967296 0 0 0 0 m0",
         "put 18446744073709551616 0 0 0 0 m0",
+        "put 0 64 0 0 0 m0",
+        "put 0 0 0 4294967295 0 m0",
+        "receive 0 64 0 - - *",
+        "receive 0 18446744073709551616 0 - - *",
         "put 0 0 0 0 0 m4294967296",
         "put 0 0 0 0 0 p4294967296",
         "put 0 0 0 0 0 m-1",
@@ -187,6 +195,9 @@ fn unreadable_lines() {
         "receives 0 0 0 - - *",
         "give 8 0 0 - - -",
         "give 0 64 0 - - -",
+        "give 0 5:9 0 - - -",
+        "give 0 0:1 - - - -",
+        "give 0:1 5 0 - - -",
         "give 0 0 32 - - -",
         "give 0 0 -32 - - -",
         "give - 0 0 - - -",
@@ -296,4 +307,161 @@ take 1 0 0 - - *,*
 12 found m7,p0
 ";
     assert_eq!(after_names(lines), output);
+}
+
+/// Every break of a set's spelling that the rules name, and others, in each place of a pair.
+#[test]
+fn sets_that_can_t_be_read() {
+    for set in [
+        "64",
+        "5:5",
+        "9:5",
+        "5:",
+        ":5",
+        "05",
+        "5::9",
+        "5:9:",
+        ":5:9",
+        "5:09",
+        "5:64",
+        "5:9:9",
+        "5:63:64",
+        "0:0",
+        "00",
+        "0:00",
+        "+5",
+        "5:+9",
+        "-5",
+        "5:-9",
+        "-0",
+        "-",
+        "--",
+        ":",
+        "::",
+        "",
+        "5,9",
+        "5;9",
+        "5.9",
+        "5: 9",
+        "5 :9",
+        "5:9 ",
+        "p5",
+        "5:p9",
+        "{5}",
+        "all",
+        "0x5",
+        "#",
+        "?",
+        "*",
+        "320",
+        "4294967301",
+        "5:4294967305",
+        "18446744073709551621",
+        "340282366920938463463374607431768211461",
+    ] {
+        for line in [
+            format!("put 0 {set} 0 0 0 m0"),
+            format!("put 0 0 0 {set} 0 m0"),
+            format!("look 0 {set} 0 - - m0"),
+            format!("receive 0 {set} 0 - - m0"),
+            format!("take 0 {set} 0 - - m0"),
+        ] {
+            let output = after_names(&format!("{line}\n"));
+            assert_eq!(output, "line 2 unreadable\n", "{line}");
+        }
+    }
+}
+
+/// As many as there are, and one more.
+#[test]
+fn sets_of_many() {
+    let upto = |last: u32| {
+        let parts: Vec<String> = (0..=last).map(|partition| partition.to_string()).collect();
+        parts.join(":")
+    };
+    for last in [1, 15, 16, 31, 32, 62, 63] {
+        let line = format!("look 0 {} 0 - - m0\n", upto(last));
+        assert_eq!(after_names(&line), "1 no7 -\n");
+    }
+    let line = format!("look 0 {} 0 - - m0\n", upto(64));
+    assert_eq!(after_names(&line), "line 2 unreadable\n");
+}
+
+#[test]
+fn sets_meet_by_one_partition() {
+    let lines = "\
+give 0 5 - - - -
+give 0 9 - - - -
+give 0 63 - - - -
+give 1 9 - - - -
+give 2 5 - - - -
+put 0 5:9 0 9:63 0 m1
+look 1 9 0 - - m1
+look 1 0:9 0 - - m1
+look 1 0 0 - - m1
+look 1 5:9 0 - - m1
+receive 2 0:5 0 - - m1
+take 2 5 0 - - m1
+take 1 9 0 - - m1
+take 1 9 0 - - m1
+";
+    let output = "\
+1 done -
+2 found m1
+3 found m1
+4 none -
+5 no7 -
+6 found m1
+7 none -
+8 found m1
+9 none -
+";
+    assert_eq!(after_names(lines), output);
+}
+
+/// What each slip about sets makes of one line: nothing is printed for a gift.
+#[test]
+fn what_the_slips_make_of_sets() {
+    let gifts = "give 0 5 - - - -\ngive 0 9 - - - -\ngive 0 63 - - - -\n";
+    let seventeen = "0:1:2:3:4:5:6:7:8:9:10:11:12:13:14:15:16";
+    for (variant, set, right, wrong) in [
+        (ConsoleVariant::ReadsTwice, "5:5", "", "done"),
+        (ConsoleVariant::ReadsAnyOrder, "9:5", "", "done"),
+        (ConsoleVariant::ReadsColonAfter, "5:", "", "done"),
+        (ConsoleVariant::ReadsColonBefore, ":5", "", "done"),
+        (ConsoleVariant::ReadsTwoColons, "5::9", "", "done"),
+        (ConsoleVariant::ReadsLeadingZero, "05", "", "done"),
+        (ConsoleVariant::ReadsPlus, "5:+9", "", "done"),
+        (ConsoleVariant::ReadsMinus, "-5", "", "done"),
+        (ConsoleVariant::ReadsComma, "5,9", "", "done"),
+        (ConsoleVariant::Reads64As0, "64", "", "done"),
+        (ConsoleVariant::WrapsAt32, "4294967301", "", "done"),
+        (
+            ConsoleVariant::WrapsAt64,
+            "18446744073709551621",
+            "",
+            "done",
+        ),
+        (ConsoleVariant::Reads64AsEmpty, "64", "", "no4"),
+        (ConsoleVariant::ReadsAbsentAsEmpty, "-", "", "no4"),
+        (ConsoleVariant::ReadsFirstAlone, "5:10", "no7", "done"),
+        (ConsoleVariant::ReadsLastAlone, "4:5", "no7", "done"),
+        (ConsoleVariant::SeveralAreUnreadable, "5:9", "done", ""),
+        (ConsoleVariant::SeventeenAreUnreadable, seventeen, "no7", ""),
+        (ConsoleVariant::Partition63IsUnreadable, "5:63", "done", ""),
+    ] {
+        let lines = format!("{NAMES}{gifts}put 0 {set} 0 0 0 m1\n");
+        for (variant, answer) in [(ConsoleVariant::Correct, right), (variant, wrong)] {
+            let output = console_with(variant, lines.as_bytes());
+            let said = match answer {
+                "" => "line 5 unreadable".to_string(),
+                answer => format!("1 {answer} -"),
+            };
+            let due = format!("line answer fields\n{said}\n");
+            assert_eq!(output, due.as_bytes(), "{variant:?}, {set}");
+        }
+    }
+    let lines = format!("{NAMES}give 0 5:9 - - - -\nput 0 5:9 0 0 0 m1\n");
+    let output = console_with(ConsoleVariant::GivesSets, lines.as_bytes());
+    assert_eq!(output, b"line answer fields\n1 done -\n");
 }

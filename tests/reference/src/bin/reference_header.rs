@@ -2,8 +2,8 @@
 //! `reference-header INTEGRATING.md`. The meaning of each refusal is the one in that file's table.
 
 use reference::names::{
-    key_bit, key_in_range, partition_bit, Field, Pair, LAST_KEY, LAST_PARTITION, MOST_FIELDS,
-    PARTIES,
+    has_partition, key_bit, key_in_range, partition_bit, set_of, Field, Pair, LAST_KEY,
+    LAST_PARTITION, MOST_FIELDS, PARTIES,
 };
 use reference::roster::LONGEST_FILE;
 use reference::table::{KEYS, LIMIT, PARTITIONS, ROSTER_WORDS, WORDS};
@@ -16,10 +16,8 @@ const KIND: u64 = 1 << 32;
 const BAD_WORD: u64 = u64::MAX;
 /// The kind that the header gives to bad words.
 const BAD_KIND: u32 = u32::MAX;
-const DEFAULTS: Pair = Pair {
-    partition: 0,
-    key: 0,
-};
+/// The set of partition 0 alone.
+const DEFAULT: u64 = 1;
 
 fn message(number: u64) -> Option<Field> {
     u32::try_from(number).ok().map(Field::Message)
@@ -41,18 +39,19 @@ fn key(number: i32) -> Option<Field> {
     key_in_range(number).then_some(Field::Key(number))
 }
 
-/// Puts an entry of one word.
-fn put(space: &mut [u64], word: u64) -> u32 {
+/// Puts an entry of one word, under this set.
+fn put(space: &mut [u64], set: u64, word: u64) -> u32 {
+    let pair = Pair { set, key: 0 };
     Reference::correct()
-        .put(space, 0, DEFAULTS, DEFAULTS, &[word])
+        .put(space, 0, pair, pair, &[word])
         .code()
 }
 
-/// Takes by a template of one word.
-fn take(space: &mut [u64], word: u64) -> u32 {
+/// Takes by a template of one word, under this set.
+fn take(space: &mut [u64], set: u64, word: u64) -> u32 {
     let query = Query {
         party: 0,
-        pair: DEFAULTS,
+        pair: Pair { set, key: 0 },
         fields: &[word],
     };
     Reference::correct()
@@ -63,7 +62,7 @@ fn take(space: &mut [u64], word: u64) -> u32 {
 /// The word of a field, or that it is bad; and what the reference says of it as field and template.
 fn word_line(space: &mut [u64], what: &str, field: Option<Field>) {
     let word = field.map_or(BAD_WORD, Field::word);
-    let (put, take) = (put(space, word), take(space, word));
+    let (put, take) = (put(space, DEFAULT, word), take(space, DEFAULT, word));
     let word = match field {
         Some(field) => format!("word {}", field.word()),
         None => "bad".to_string(),
@@ -77,12 +76,41 @@ fn bound_lines(space: &mut [u64], field: Field, number: u32) {
         ("at least", Field::AtLeast(number)),
         ("at most", Field::AtMost(number)),
     ] {
-        let put = put(space, field.word());
-        let by_bound = take(space, bound.word());
-        let left = take(space, Field::Wildcard.word());
+        let put = put(space, DEFAULT, field.word());
+        let by_bound = take(space, DEFAULT, bound.word());
+        let left = take(space, DEFAULT, Field::Wildcard.word());
         let word = field.word();
         println!("of word {word}, put {put}, {what} {number}: take {by_bound}, left {left}");
     }
+}
+
+/// The set of one partition, which is the empty one if there is no such partition.
+fn set_of_one(partition: u32) -> u64 {
+    set_of((0..=LAST_PARTITION).filter(|number| *number == partition))
+}
+
+/// The partitions that are in either set, or the empty set if one of them is that.
+fn join(set: u64, other: u64) -> u64 {
+    let in_either = |partition: &u32| {
+        [set, other]
+            .iter()
+            .any(|set| has_partition(*set, *partition))
+    };
+    match [set, other].contains(&0) {
+        true => 0,
+        false => set_of((0..=LAST_PARTITION).filter(in_either)),
+    }
+}
+
+/// The set, and what the reference says of a put and a take under it.
+fn set_line(space: &mut [u64], what: &str, set: u64) {
+    let (put, take) = (put(space, set, 7), take(space, set, 7));
+    println!("{what}: set {set}, put {put}, take {take}");
+}
+
+fn join_line(space: &mut [u64], set: u64, other: u64) {
+    let joined = join(set, other);
+    set_line(space, &format!("{set} with {other}"), joined);
 }
 
 fn kind_line(word: u64) {
@@ -213,6 +241,32 @@ fn word_lines(space: &mut [u64]) {
     }
 }
 
+/// The set of every partition and of some that there aren't, joins of two and of more, and with
+/// the empty set.
+fn set_lines(space: &mut [u64]) {
+    for number in (0..=70)
+        .chain((7..32).map(|bit| 1 << bit))
+        .chain([u32::MAX])
+    {
+        set_line(space, &format!("of {number}"), set_of_one(number));
+    }
+    let mut all = set_of_one(0);
+    for number in 1..=LAST_PARTITION {
+        join_line(space, all, set_of_one(number));
+        all = join(all, set_of_one(number));
+    }
+    let mut state = 362_436_069;
+    for _ in 0..200 {
+        let (set, other) = (some_word(&mut state), some_word(&mut state));
+        let few = set & other & some_word(&mut state);
+        for (set, other) in [(set, other), (few, other), (few, few), (0, set), (set, 0)] {
+            join_line(space, set, other);
+        }
+    }
+    join_line(space, 0, 0);
+    join_line(space, u64::MAX, 1);
+}
+
 /// Every bound against every message of some, and against names that are as low.
 fn takes_by_bounds(space: &mut [u64]) {
     let numbers = [
@@ -267,6 +321,7 @@ fn main() {
     println!("kinds 0 1 2 3 4 5, bad {BAD_KIND}");
     open_for_all(&mut space);
     word_lines(&mut space);
+    set_lines(&mut space);
     takes_by_bounds(&mut space);
     kind_lines();
     for party in 0..=9 {

@@ -1,0 +1,221 @@
+//! Rule M7: with sets of one partition all is as if pairs named partitions, compared for equality.
+//! The same runs, by sets with a system and by numbers with the reference of those rules.
+
+use crate::call::{answer_text, is_refusal, Call, Kind};
+use crate::pool::{Maker, Mix, Pool, ALL_PARTIES};
+use crate::report::Report;
+use crate::rng::Rng;
+use crate::space::Space;
+use reference::names::{partition_bit, partitions_of, LAST_PARTITION};
+use reference::table::{row_start, LIVE, READ_SET, TAKE_SET, WORDS};
+use reference::{Pair, Reference, Variant};
+use std::collections::{BTreeMap, BTreeSet};
+
+const SEED: u64 = 4_301;
+const RUNS: u64 = 1_000;
+const MIXES: [Mix; 3] = [mix(35, 15, 15), mix(84, 5, 5), mix(50, 10, 10)];
+
+const fn mix(puts: usize, looks: usize, receives: usize) -> Mix {
+    Mix {
+        puts,
+        looks,
+        receives,
+        broken: 8,
+    }
+}
+
+/// The same call by sets of one partition, and by the numbers of those partitions.
+struct Both {
+    by_sets: Call,
+    by_numbers: Call,
+}
+
+impl Both {
+    /// Of a call with any sets; where one is empty, there is any partition.
+    fn of(rng: &mut Rng, mut call: Call) -> Both {
+        let mut by_numbers = call.clone();
+        let sets = pairs_of(&mut call).into_iter();
+        for (pair, number) in sets.zip(pairs_of(&mut by_numbers)) {
+            let any = rng.below(LAST_PARTITION as usize + 1) as u32;
+            let partitions: Vec<u32> = partitions_of(pair.set).collect();
+            let partition = match partitions.is_empty() {
+                true => any,
+                false => rng.pick(&partitions),
+            };
+            pair.set = partition_bit(partition);
+            number.set = partition.into();
+        }
+        Both {
+            by_sets: call,
+            by_numbers,
+        }
+    }
+}
+
+fn pairs_of(call: &mut Call) -> Vec<&mut Pair> {
+    match call {
+        Call::Open { .. } => Vec::new(),
+        Call::Put { read, take, .. } => vec![read, take],
+        Call::Find(_, query) => vec![&mut query.pair],
+    }
+}
+
+/// How often which answer came, and which partitions were named without a refusal.
+#[derive(Default)]
+struct Counts {
+    answers: BTreeMap<(Kind, u32), u64>,
+    partitions: BTreeSet<u64>,
+}
+
+impl Counts {
+    fn add(&mut self, both: &mut Both, code: u32) {
+        let kind = both.by_sets.kind();
+        *self.answers.entry((kind, code)).or_default() += 1;
+        if !is_refusal(code) {
+            let named = pairs_of(&mut both.by_numbers).into_iter();
+            self.partitions.extend(named.map(|pair| pair.set));
+        }
+    }
+
+    /// No refusal by 1 can come, since the space stays sound.
+    fn finish(&self) -> Result<String, String> {
+        let of_finds = (0..=8).chain(102..=107);
+        let of_puts = [0, 102, 103, 104, 105, 107, 108];
+        let finds = [Kind::LOOK, Kind::RECEIVE, Kind::TAKE];
+        let wanted = finds
+            .into_iter()
+            .flat_map(|kind| of_finds.clone().map(move |code| (kind, code)))
+            .chain(of_puts.map(|code| (Kind::Put, code)));
+        let missing: Vec<String> = wanted
+            .filter(|wanted| !self.answers.contains_key(wanted))
+            .map(|(kind, code)| format!("{}: {}", kind.word(), answer_text(kind, code)))
+            .collect();
+        let partitions = self.partitions.len();
+        if !missing.is_empty() || partitions <= LAST_PARTITION as usize {
+            let missing = missing.join(", ");
+            return Err(format!("{partitions} partitions named, never: {missing}"));
+        }
+        let all = |such: fn(u32) -> bool| -> u64 {
+            let answers = self.answers.iter();
+            let finds = answers.filter(|((kind, code), _)| *kind != Kind::Put && such(*code));
+            finds.map(|(_, count)| count).sum()
+        };
+        let calls: u64 = self.answers.values().sum();
+        Ok(format!(
+            "{calls} calls alike, {} found, {} none, each of {partitions} partitions named",
+            all(|code| (1..=8).contains(&code)),
+            all(|code| code == 0)
+        ))
+    }
+}
+
+/// The space by sets, and by numbers.
+struct Spaces {
+    by_sets: Vec<u64>,
+    by_numbers: Vec<u64>,
+}
+
+impl Spaces {
+    /// Whether they are the same, but for how partitions stand in live rows.
+    fn are_alike(&self) -> bool {
+        let mut due = self.by_numbers.clone();
+        for row in 0..due[LIVE] as usize {
+            for place in [READ_SET, TAKE_SET].map(|place| row_start(row) + place) {
+                due[place] = partition_bit(due[place] as u32);
+            }
+        }
+        due == self.by_sets
+    }
+
+    /// Makes the call of both. Gives the answer, or what differs.
+    fn call(&mut self, system: &mut dyn Space, both: &Both, rng: &mut Rng) -> Result<u32, String> {
+        let earlier: Vec<u64> = (0..both.by_sets.result_len()).map(|_| rng.word()).collect();
+        let mut results = [earlier.clone(), earlier];
+        let [by_sets, by_numbers] = &mut results;
+        let call = &both.by_sets;
+        let code = call.make(system, &mut self.by_sets, call.input(), by_sets);
+        let call = &both.by_numbers;
+        let mut numbers = Reference::with(Variant::SinglePartitions);
+        let due = call.make(&mut numbers, &mut self.by_numbers, call.input(), by_numbers);
+        if code == due && by_sets == by_numbers && self.are_alike() {
+            return Ok(code);
+        }
+        let [code, due] = [code, due].map(|code| answer_text(call.kind(), code));
+        Err(format!(
+            "{:?}\n    {code} {by_sets:?}, by numbers {due} {by_numbers:?}",
+            both.by_sets
+        ))
+    }
+}
+
+fn run(system: &mut dyn Space, rng: &mut Rng, counts: &mut Counts) -> Result<(), String> {
+    let pool = Pool::random(rng, 4, 2);
+    let maker = Maker {
+        pool: &pool,
+        parties: &ALL_PARTIES,
+        mix: rng.pick(&MIXES),
+    };
+    let mut spaces = Spaces {
+        by_sets: vec![0; WORDS],
+        by_numbers: vec![0; WORDS],
+    };
+    let roster = pool.roster(rng, 80);
+    let opening = Both::of(rng, Call::Open { roster });
+    spaces.call(system, &opening, rng)?;
+    for _ in 0..rng.pick(&[30, 100, 180, 300]) {
+        let call = maker.call(rng, &spaces.by_sets);
+        let mut both = Both::of(rng, call);
+        let code = spaces.call(system, &both, rng)?;
+        counts.add(&mut both, code);
+    }
+    Ok(())
+}
+
+/// Gives the counts, or what differs first and after how many runs.
+fn compare_runs(system: &mut dyn Space) -> Result<Counts, (u64, String)> {
+    let mut counts = Counts::default();
+    for number in 0..RUNS {
+        let mut rng = Rng::new(SEED, number);
+        run(system, &mut rng, &mut counts)
+            .map_err(|text| (number, format!("seed {SEED}, run {number}, {text}")))?;
+    }
+    Ok(counts)
+}
+
+/// Holds a system's calls with sets of one partition against calls with partitions.
+pub fn check(report: &mut Report, who: &str, system: &mut dyn Space) {
+    let counts = compare_runs(system).map_err(|(_, text)| text);
+    let outcome = counts.and_then(|counts| counts.finish());
+    report.check(
+        &format!("sets of one partition, {who}: held against partitions"),
+        outcome.map(|text| format!("seed {SEED}, {RUNS} runs: {text}")),
+    );
+}
+
+/// The harness itself is tested: whatever takes a set of one wrongly must be caught.
+pub fn check_variants(report: &mut Report) {
+    for variant in [
+        Variant::DefaultPartitionMatchesAll,
+        Variant::WildcardsMatchPartition,
+        Variant::BoundedMatchesAllPartitions,
+        Variant::SharedBelow32,
+        Variant::Partition63IsNotShared,
+        Variant::TakeTestsReadSet,
+        Variant::PutsReadSetTwice,
+        Variant::HeldBelow32IsEnough,
+        Variant::HeldByAnybodyIsEnough,
+        Variant::GivesReadSet,
+        Variant::RefusesPartition63,
+        Variant::RefusesWordsAbove63,
+        Variant::RefusesNoneBelow32,
+        Variant::Partition63InRowIsUnsound,
+        Variant::WordAbove63InRowIsUnsound,
+        Variant::NoneBelow32InRowIsUnsound,
+    ] {
+        let outcome = match compare_runs(&mut Reference::with(variant)) {
+            Err((alike, _)) => Ok(format!("after {alike} runs alike")),
+            Ok(_) => Err("not caught".to_string()),
+        };
+        report.check(&format!("sets of one partition show {variant:?}"), outcome);
+    }
+}
