@@ -1,28 +1,29 @@
 /* A logger in small: a digitiser, the pickers of two groups and the telemetry share one space and don't trust one another.
    It needs space.h and stdio alone, and prints the same on the desk and on a board.
 
-   Whoever puts an entry chooses a partition and a key under which it is read (looked at or received), and a pair under which it is
-   taken. To find it one names the partition and the co-key, and nobody can name what it doesn't hold. So all depends on who holds
-   what:
+   Whoever puts an entry chooses a set of partitions and a key under which it is read (looked at or received), and such a pair under
+   which it is taken. To find it one names a partition of the set and the co-key, and nobody can name what it doesn't hold. So all
+   depends on who holds what:
 
      partition 1    triggers            the digitiser holds the keys 7 and -7, the pickers hold -7
      partition 2    settings            the telemetry holds 9 and -9, all others hold -9
      partition 10   picks of group A    picker A holds 3, -3 and 4, the telemetry holds -4
      partition 11   picks of group B    picker B holds 5, -5 and 6, the telemetry holds -6
      partition 12   notes of group A    picker A holds 13 and -13, and at first nobody else does
+     10 and 11      alarms for both     both pickers hold 14 and -14, and picker A holds both partitions
 
-   A program may join any partition that it holds with any key that it holds, so no key here serves two purposes. */
+   A program may pair any partitions that it holds with any key that it holds, so no key here serves two purposes. */
 #include "space.h"
 #include <stdio.h>
 
 struct pair {
-    uint32_t partition;
+    uint64_t partitions;
     int32_t key;
 };
 
 /* Here every entry has three fields, and the first says what it is. */
 enum { FIELDS = 3 };
-enum { TRIGGER = 1, PICK, GAIN, NOTE, NAMES };
+enum { TRIGGER = 1, PICK, GAIN, NOTE, NAMES, ALARM };
 
 /* What a program asks of the host. There is no party in it: the host knows who is asking. */
 struct request {
@@ -42,13 +43,14 @@ static uint32_t serve(uint32_t party, struct request *r)
 {
     switch (r->call) {
     case PUT:
-        return space_put(space, SPACE_WORDS, party, r->read.partition, r->read.key, r->take.partition, r->take.key, r->fields, FIELDS);
+        return space_put(space, SPACE_WORDS, party, r->read.partitions, r->read.key, r->take.partitions, r->take.key, r->fields,
+                         FIELDS);
     case LOOK:
-        return space_look(space, SPACE_WORDS, party, r->read.partition, r->read.key, r->fields, FIELDS, r->found, FIELDS);
+        return space_look(space, SPACE_WORDS, party, r->read.partitions, r->read.key, r->fields, FIELDS, r->found, FIELDS);
     case RECEIVE:
-        return space_receive(space, SPACE_WORDS, party, r->read.partition, r->read.key, r->fields, FIELDS, r->found, FIELDS);
+        return space_receive(space, SPACE_WORDS, party, r->read.partitions, r->read.key, r->fields, FIELDS, r->found, FIELDS);
     default:
-        return space_take(space, SPACE_WORDS, party, r->take.partition, r->take.key, r->fields, FIELDS, r->found, FIELDS);
+        return space_take(space, SPACE_WORDS, party, r->take.partitions, r->take.key, r->fields, FIELDS, r->found, FIELDS);
     }
 }
 
@@ -68,6 +70,7 @@ static const struct gift {
     {PICKER_A, 10, 3},  {PICKER_A, 10, -3}, {PICKER_A, 10, 4},  {TELEMETRY, 10, -4},
     {PICKER_B, 11, 5},  {PICKER_B, 11, -5}, {PICKER_B, 11, 6},  {TELEMETRY, 11, -6},
     {PICKER_A, 12, 13}, {PICKER_A, 12, -13},
+    {PICKER_A, 10, 14}, {PICKER_A, 11, -14}, {PICKER_B, 11, 14}, {PICKER_B, 11, -14},
 };
 
 /* The space is opened once, when the logger starts. */
@@ -89,12 +92,25 @@ static const struct program {
 } digitiser = {"digitiser", digitiser_door}, picker_a = {"picker A", picker_a_door}, picker_b = {"picker B", picker_b_door},
   telemetry = {"telemetry", telemetry_door};
 
-static const struct pair triggers = {1, 7}, settings = {2, 9}, notes = {12, 13};
-static const struct pair picks_of_a = {10, 3}, picks_of_b = {11, 5}; /* for a group's own eyes */
-static const struct pair from_a = {10, 4}, from_b = {11, 6};         /* for the telemetry to take */
+static struct pair triggers, settings, notes;
+static struct pair picks_of_a, picks_of_b;           /* for a group's own eyes */
+static struct pair from_a, from_b;                   /* for the telemetry to take */
+static struct pair alarms_of_a, alarms_of_b, alarms; /* for one group, and for both */
 
-/* The pair that finds what is put under this one. */
-static struct pair co(struct pair p) { return (struct pair){p.partition, -p.key}; }
+static struct pair under(uint32_t partition, int32_t key) { return (struct pair){space_set(partition), key}; }
+
+/* Sets are made by functions, which C allows in no initialiser of a static variable. */
+static void make_pairs(void)
+{
+    triggers = under(1, 7), settings = under(2, 9), notes = under(12, 13);
+    picks_of_a = under(10, 3), picks_of_b = under(11, 5);
+    from_a = under(10, 4), from_b = under(11, 6);
+    alarms_of_a = under(10, 14), alarms_of_b = under(11, 14);
+    alarms = (struct pair){space_join(alarms_of_a.partitions, alarms_of_b.partitions), 14};
+}
+
+/* The pair that finds what is put under this one. Any partition of the set would do in place of all. */
+static struct pair co(struct pair p) { return (struct pair){p.partitions, -p.key}; }
 
 static struct request to_put(struct pair read, struct pair take, uint32_t what, uint64_t a, uint64_t b)
 {
@@ -211,6 +227,27 @@ static void a_setting(void)
     step(&digitiser, "looks at the gain", to_look(co(settings), GAIN, space_message(1), ANY), FOUND);
 }
 
+/* In an eruption the groups join. What picker A puts under both partitions is found with either, so picker B needs no name of the
+   other group for it. To name both one must hold both. Whoever asks in both finds also what is put under one of them: alarm 2 is of
+   group B alone, and it says so nowhere but in its partition. To part, picker A puts under its own partition again. */
+static void an_eruption(void)
+{
+    step(&picker_a, "alarms both groups: 1, level 3", to_put(alarms, alarms, ALARM, space_message(1), space_message(3)), DONE);
+    step(&picker_a, "looks in both partitions", to_look(co(alarms), ALARM, ANY, ANY), FOUND);
+    step(&picker_b, "looks in its own partition", to_look(co(alarms_of_b), ALARM, ANY, ANY), FOUND);
+    step(&picker_b, "tries to look in both", to_look(co(alarms), ALARM, ANY, ANY), 107);
+    step(&picker_b, "tries to alarm both groups", to_put(alarms, alarms, ALARM, space_message(2), space_message(9)), 107);
+    step(&picker_b, "alarms its own group: 2, level 9", to_put(alarms_of_b, alarms_of_b, ALARM, space_message(2), space_message(9)), DONE);
+    step(&picker_a, "looks for alarm 2 in its own partition", to_look(co(alarms_of_a), ALARM, space_message(2), ANY), NONE);
+    step(&picker_a, "looks for alarm 2 in both", to_look(co(alarms), ALARM, space_message(2), ANY), FOUND);
+    step(&picker_b, "takes alarm 1 away", to_take(co(alarms_of_b), ALARM, space_message(1), ANY), FOUND);
+    step(&picker_a, "looks for alarm 1", to_look(co(alarms), ALARM, space_message(1), ANY), NONE);
+    step(&picker_a, "alarms its own group: 3, level 4", to_put(alarms_of_a, alarms_of_a, ALARM, space_message(3), space_message(4)), DONE);
+    step(&picker_b, "looks for alarm 3", to_look(co(alarms_of_b), ALARM, space_message(3), ANY), NONE);
+    step(&picker_b, "takes alarm 2 down", to_take(co(alarms_of_b), ALARM, space_message(2), ANY), FOUND);
+    step(&picker_a, "takes alarm 3 down", to_take(co(alarms_of_a), ALARM, space_message(3), ANY), FOUND);
+}
+
 /* Names travel in fields. Picker A lets the telemetry look at its notes: it puts their partition and co-key under a pair that the
    telemetry alone finds. A look at them gives nothing. Whoever receives names, or takes them, holds them from then on, and nothing
    takes them back. */
@@ -218,12 +255,12 @@ static void names(void)
 {
     step(&picker_a, "notes that battery 3 has 12 volts", to_put(notes, co(notes), NOTE, space_message(3), space_message(12)), DONE);
     step(&telemetry, "tries to look at the note", to_look(co(notes), NOTE, ANY, ANY), 107);
-    step(&picker_a, "hands over the names", to_put(from_a, from_a, NAMES, space_partition(notes.partition), space_key(-notes.key)), DONE);
+    step(&picker_a, "hands over the names", to_put(from_a, from_a, NAMES, space_partition(12), space_key(-notes.key)), DONE);
     step(&picker_b, "tries to take them", to_take(co(from_a), NAMES, ANY, ANY), 107);
     struct request seen = step(&telemetry, "looks at them", to_look(co(from_a), NAMES, ANY, ANY), FOUND);
     /* two numbers would give it no names, so it looks at the kinds */
     surprises += space_kind(seen.found[1]) != SPACE_KIND_PARTITION || space_kind(seen.found[2]) != SPACE_KIND_KEY;
-    struct pair given = {(uint32_t)space_value(seen.found[1]), (int32_t)space_value(seen.found[2])};
+    struct pair given = under((uint32_t)space_value(seen.found[1]), (int32_t)space_value(seen.found[2]));
     step(&telemetry, "tries to look at the note", to_look(given, NOTE, ANY, ANY), 107);
     step(&telemetry, "receives them", to_receive(co(from_a), NAMES, ANY, ANY), FOUND);
     step(&telemetry, "looks at the note", to_look(given, NOTE, ANY, ANY), FOUND);
@@ -252,11 +289,13 @@ static void sixteen(void)
 int main(void)
 {
     uint32_t opened = open_space();
+    make_pairs();
     printf("host       opens the space: %s\n", opened == DONE ? "done" : space_meaning(opened));
     a_trigger();
     triggers_after();
     picks();
     a_setting();
+    an_eruption();
     names();
     sixteen();
     return surprises != 0;

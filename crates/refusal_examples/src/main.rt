@@ -16,9 +16,22 @@ const AT_MOST: u64 = 21474836480;
 
 const KIND_6: u64 = 25769803776;
 
-// Holdings: partition 5, key 4, which is stored as 35, and key -4, which is stored as 27.
-const PARTITION_5: u64 = 32;
+// Sets of partitions, in pairs and in holdings.
+const EMPTY: u64 = 0;
 
+const SET_0: u64 = 1;
+
+const SET_5: u64 = 32;
+
+const SET_6: u64 = 64;
+
+const SET_0_5: u64 = 33;
+
+const SET_5_6: u64 = 96;
+
+const SET_OF_ALL: u64 = 18446744073709551615;
+
+// Holdings: key 4, which is stored as 35, and key -4, which is stored as 27.
 const KEY_4: u64 = 34359738368;
 
 const KEY_MINUS_4: u64 = 134217728;
@@ -45,9 +58,9 @@ fn main() {
 // Party 0 holds partition 5 and key 4, and party 1 partition 5 and key -4.
 fn roster() -> [u64; 16] {
     let mut roster = [0u64; 16];
-    roster[0] = PARTITION_5;
+    roster[0] = SET_5;
     roster[8] = KEY_4;
-    roster[1] = PARTITION_5;
+    roster[1] = SET_5;
     roster[9] = KEY_MINUS_4;
     roster
 }
@@ -67,6 +80,26 @@ fn first_1808(words: [u64; 1809]) -> [u64; 1808] {
 fn with_129_entries(words: [u64; 1809]) -> [u64; 1809] {
     let mut damaged = words;
     damaged[0] = 129;
+    damaged
+}
+
+fn with_an_entry(words: [u64; 1809]) -> [u64; 1809] {
+    let mut more = words;
+    space::put(&mut more, 0, SET_5, 4, SET_5, 4, &[7, 120]);
+    more
+}
+
+// The set of the first row's read pair.
+fn with_an_empty_read_set(words: [u64; 1809]) -> [u64; 1809] {
+    let mut damaged = words;
+    damaged[18] = EMPTY;
+    damaged
+}
+
+// That of its take pair.
+fn with_an_empty_take_set(words: [u64; 1809]) -> [u64; 1809] {
+    let mut damaged = words;
+    damaged[20] = EMPTY;
     damaged
 }
 
@@ -95,77 +128,96 @@ fn open_examples() {
 }
 
 fn put_of_unsound(words: [u64; 1809]) {
+    let one = with_an_entry(words);
     say(b"put, 1808 words");
     put_1808(words, 0);
     say(b"put, 129 live entries");
-    put(with_129_entries(words), 0, 5, 4, 5, 4, &[7]);
+    put(with_129_entries(words), 0, SET_5, 4, SET_5, 4, &[7]);
+    say(b"put, a row with an empty read set");
+    put(with_an_empty_read_set(one), 0, SET_5, 4, SET_5, 4, &[7]);
+    say(b"put, a row with an empty take set");
+    put(with_an_empty_take_set(one), 0, SET_5, 4, SET_5, 4, &[7]);
     say(b"put, 1808 words, party 8");
     put_1808(words, 8);
 }
 
 fn put_refused(words: [u64; 1809]) {
     say(b"put, party 8");
-    put(words, 8, 5, 4, 5, 4, &[7]);
+    put(words, 8, SET_5, 4, SET_5, 4, &[7]);
     say(b"put, no field");
-    put(words, 0, 5, 4, 5, 4, &[]);
+    put(words, 0, SET_5, 4, SET_5, 4, &[]);
     say(b"put, 9 fields");
-    put(words, 0, 5, 4, 5, 4, &[7; 9]);
-    say(b"put, read partition 64");
-    put(words, 0, 64, 4, 5, 4, &[7]);
+    put(words, 0, SET_5, 4, SET_5, 4, &[7; 9]);
+    say(b"put, empty read set");
+    put(words, 0, EMPTY, 4, SET_5, 4, &[7]);
     say(b"put, read key 32");
-    put(words, 0, 5, 32, 5, 4, &[7]);
-    say(b"put, take partition 64");
-    put(words, 0, 5, 4, 64, 4, &[7]);
+    put(words, 0, SET_5, 32, SET_5, 4, &[7]);
+    say(b"put, empty take set");
+    put(words, 0, SET_5, 4, EMPTY, 4, &[7]);
     say(b"put, take key -32");
-    put(words, 0, 5, 4, 5, -32, &[7]);
+    put(words, 0, SET_5, 4, SET_5, -32, &[7]);
 }
 
 fn put_of_bad_fields(words: [u64; 1809]) {
     say(b"put, field of kind 6");
-    put(words, 0, 5, 4, 5, 4, &[KIND_6]);
+    put(words, 0, SET_5, 4, SET_5, 4, &[KIND_6]);
     say(b"put, field with partition 64");
-    put(words, 0, 5, 4, 5, 4, &[PARTITION + 64]);
+    put(words, 0, SET_5, 4, SET_5, 4, &[PARTITION + 64]);
     say(b"put, field with stored key 63");
-    put(words, 0, 5, 4, 5, 4, &[KEY + 63]);
+    put(words, 0, SET_5, 4, SET_5, 4, &[KEY + 63]);
     say(b"put, wildcard");
-    put(words, 0, 5, 4, 5, 4, &[WILDCARD]);
+    put(words, 0, SET_5, 4, SET_5, 4, &[WILDCARD]);
 }
 
 fn put_of_bounds(words: [u64; 1809]) {
     say(b"put, at least 7");
-    put(words, 0, 5, 4, 5, 4, &[AT_LEAST + 7]);
+    put(words, 0, SET_5, 4, SET_5, 4, &[AT_LEAST + 7]);
     say(b"put, at most 7");
-    put(words, 0, 5, 4, 5, 4, &[AT_MOST + 7]);
-    say(b"put, read partition 64, at least 7");
-    put(words, 0, 64, 4, 5, 4, &[AT_LEAST + 7]);
+    put(words, 0, SET_5, 4, SET_5, 4, &[AT_MOST + 7]);
+    say(b"put, empty read set, at least 7");
+    put(words, 0, EMPTY, 4, SET_5, 4, &[AT_LEAST + 7]);
     say(b"put, at most 7, read key -4 not held");
-    put(words, 0, 5, -4, 5, 4, &[AT_MOST + 7]);
+    put(words, 0, SET_5, -4, SET_5, 4, &[AT_MOST + 7]);
 }
 
 fn put_of_others_names(words: [u64; 1809]) {
-    say(b"put, read partition 6 not held");
-    put(words, 0, 6, 4, 5, 4, &[7]);
+    say(b"put, read set {6}, 6 not held");
+    put(words, 0, SET_6, 4, SET_5, 4, &[7]);
+    say(b"put, read set {5, 6}, 6 not held");
+    put(words, 0, SET_5_6, 4, SET_5, 4, &[7]);
+    say(b"put, read set of all 64, most not held");
+    put(words, 0, SET_OF_ALL, 4, SET_5, 4, &[7]);
     say(b"put, read key -4 not held");
-    put(words, 0, 5, -4, 5, 4, &[7]);
-    say(b"put, take partition 6 not held");
-    put(words, 0, 5, 4, 6, 4, &[7]);
+    put(words, 0, SET_5, -4, SET_5, 4, &[7]);
+    say(b"put, take set {6}, 6 not held");
+    put(words, 0, SET_5, 4, SET_6, 4, &[7]);
+    say(b"put, take set {5, 6}, 6 not held");
+    put(words, 0, SET_5, 4, SET_5_6, 4, &[7]);
+    say(b"put, take set of all 64, most not held");
+    put(words, 0, SET_5, 4, SET_OF_ALL, 4, &[7]);
     say(b"put, take key -4 not held");
-    put(words, 0, 5, 4, 5, -4, &[7]);
+    put(words, 0, SET_5, 4, SET_5, -4, &[7]);
     say(b"put, carried partition 6 not held");
-    put(words, 0, 5, 4, 5, 4, &[PARTITION + 6]);
+    put(words, 0, SET_5, 4, SET_5, 4, &[PARTITION + 6]);
     say(b"put, carried key -4 not held");
-    put(words, 0, 5, 4, 5, 4, &[KEY + 27]);
+    put(words, 0, SET_5, 4, SET_5, 4, &[KEY + 27]);
 }
 
 fn put_refused_twice(words: [u64; 1809]) {
     say(b"put, party 8, no field");
-    put(words, 8, 5, 4, 5, 4, &[]);
+    put(words, 8, SET_5, 4, SET_5, 4, &[]);
     say(b"put, 9 fields, take key -32");
-    put(words, 0, 5, 4, 5, -32, &[7; 9]);
-    say(b"put, read partition 64, wildcard");
-    put(words, 0, 64, 4, 5, 4, &[WILDCARD]);
+    put(words, 0, SET_5, 4, SET_5, -32, &[7; 9]);
+    say(b"put, 9 fields, empty take set");
+    put(words, 0, SET_5, 4, EMPTY, 4, &[7; 9]);
+    say(b"put, empty read set, wildcard");
+    put(words, 0, EMPTY, 4, SET_5, 4, &[WILDCARD]);
+    say(b"put, take key -32, wildcard");
+    put(words, 0, SET_5, 4, SET_5, -32, &[WILDCARD]);
+    say(b"put, wildcard, read set {5, 6}, 6 not held");
+    put(words, 0, SET_5_6, 4, SET_5, 4, &[WILDCARD]);
     say(b"put, wildcard, read key -4 not held");
-    put(words, 0, 5, -4, 5, 4, &[WILDCARD]);
+    put(words, 0, SET_5, -4, SET_5, 4, &[WILDCARD]);
 }
 
 // The entries before the 16th are put unshown, and so is the 16th after it is shown.
@@ -175,100 +227,121 @@ fn put_at_the_limit(words: [u64; 1809]) {
     put_five_entries(&mut full);
     put_five_entries(&mut full);
     say(b"put, 16th entry");
-    put(full, 0, 5, 4, 5, 4, &[7]);
-    space::put(&mut full, 0, 5, 4, 5, 4, &[7]);
+    put(full, 0, SET_5, 4, SET_5, 4, &[7]);
+    space::put(&mut full, 0, SET_5, 4, SET_5, 4, &[7]);
     say(b"put, 17th entry");
-    put(full, 0, 5, 4, 5, 4, &[7]);
+    put(full, 0, SET_5, 4, SET_5, 4, &[7]);
+    say(b"put, 17th entry, take set {5, 6}, 6 not held");
+    put(full, 0, SET_5, 4, SET_5_6, 4, &[7]);
     say(b"put, 17th entry, carried key -4 not held");
-    put(full, 0, 5, 4, 5, 4, &[KEY + 27]);
+    put(full, 0, SET_5, 4, SET_5, 4, &[KEY + 27]);
 }
 
 fn put_five_entries(words: &mut [u64]) {
-    space::put(words, 0, 5, 4, 5, 4, &[7]);
-    space::put(words, 0, 5, 4, 5, 4, &[7]);
-    space::put(words, 0, 5, 4, 5, 4, &[7]);
-    space::put(words, 0, 5, 4, 5, 4, &[7]);
-    space::put(words, 0, 5, 4, 5, 4, &[7]);
+    space::put(words, 0, SET_5, 4, SET_5, 4, &[7]);
+    space::put(words, 0, SET_5, 4, SET_5, 4, &[7]);
+    space::put(words, 0, SET_5, 4, SET_5, 4, &[7]);
+    space::put(words, 0, SET_5, 4, SET_5, 4, &[7]);
+    space::put(words, 0, SET_5, 4, SET_5, 4, &[7]);
 }
 
 // A seek is a look, a receive or a take. There is an entry that it would find.
 fn seek_examples(opened: [u64; 1809], op: Op) {
-    let mut words = opened;
-    space::put(&mut words, 0, 5, 4, 5, 4, &[7, 120]);
+    let words = with_an_entry(opened);
     seek_of_unsound(words, op);
     seek_refused(words, op);
     seek_of_bad_fields(words, op);
     seek_of_bounds(words, op);
+    seek_of_sets(words, op);
     seek_of_others_names(words, op);
     seek_refused_twice(words, op);
     say_seek(op, b"nothing wrong");
-    seek(words, op, 1, 5, -4, &[7, WILDCARD]);
+    seek(words, op, 1, SET_5, -4, &[7, WILDCARD]);
 }
 
 fn seek_of_unsound(words: [u64; 1809], op: Op) {
     say_seek(op, b"1808 words");
     seek_1808(words, op, 1);
     say_seek(op, b"129 live entries");
-    seek(with_129_entries(words), op, 1, 5, -4, &[7, 120]);
+    seek(with_129_entries(words), op, 1, SET_5, -4, &[7, 120]);
+    say_seek(op, b"a row with an empty read set");
+    seek(with_an_empty_read_set(words), op, 1, SET_5, -4, &[7, 120]);
+    say_seek(op, b"a row with an empty take set");
+    seek(with_an_empty_take_set(words), op, 1, SET_5, -4, &[7, 120]);
     say_seek(op, b"1808 words, party 8");
     seek_1808(words, op, 8);
 }
 
 fn seek_refused(words: [u64; 1809], op: Op) {
     say_seek(op, b"party 8");
-    seek(words, op, 8, 5, -4, &[7, 120]);
+    seek(words, op, 8, SET_5, -4, &[7, 120]);
     say_seek(op, b"no field");
-    seek(words, op, 1, 5, -4, &[]);
+    seek(words, op, 1, SET_5, -4, &[]);
     say_seek(op, b"9 fields");
-    seek(words, op, 1, 5, -4, &[7; 9]);
-    say_seek(op, b"partition 64");
-    seek(words, op, 1, 64, -4, &[7, 120]);
+    seek(words, op, 1, SET_5, -4, &[7; 9]);
+    say_seek(op, b"empty set");
+    seek(words, op, 1, EMPTY, -4, &[7, 120]);
     say_seek(op, b"key 32");
-    seek(words, op, 1, 5, 32, &[7, 120]);
+    seek(words, op, 1, SET_5, 32, &[7, 120]);
     say_seek(op, b"key -32");
-    seek(words, op, 1, 5, -32, &[7, 120]);
+    seek(words, op, 1, SET_5, -32, &[7, 120]);
 }
 
 fn seek_of_bad_fields(words: [u64; 1809], op: Op) {
     say_seek(op, b"field of kind 6");
-    seek(words, op, 1, 5, -4, &[7, KIND_6]);
+    seek(words, op, 1, SET_5, -4, &[7, KIND_6]);
     say_seek(op, b"field with partition 64");
-    seek(words, op, 1, 5, -4, &[7, PARTITION + 64]);
+    seek(words, op, 1, SET_5, -4, &[7, PARTITION + 64]);
     say_seek(op, b"field with stored key 63");
-    seek(words, op, 1, 5, -4, &[7, KEY + 63]);
+    seek(words, op, 1, SET_5, -4, &[7, KEY + 63]);
     say_seek(op, b"wildcard with value 1");
-    seek(words, op, 1, 5, -4, &[7, WILDCARD + 1]);
+    seek(words, op, 1, SET_5, -4, &[7, WILDCARD + 1]);
     say_seek(op, b"2 fields, 1 result word");
     seek_to_one_word(words, op, -4, &[7, 120]);
 }
 
 fn seek_of_bounds(words: [u64; 1809], op: Op) {
     say_seek(op, b"a row with at least 7");
-    seek(with_a_bound(words), op, 1, 5, -4, &[7, 120]);
+    seek(with_a_bound(words), op, 1, SET_5, -4, &[7, 120]);
     say_seek(op, b"bounds, 1 result word");
     seek_to_one_word(words, op, -4, &[AT_MOST + 7, AT_LEAST + 120]);
     say_seek(op, b"bounds, nothing wrong");
-    seek(words, op, 1, 5, -4, &[AT_MOST + 7, AT_LEAST + 120]);
+    seek(words, op, 1, SET_5, -4, &[AT_MOST + 7, AT_LEAST + 120]);
+}
+
+fn seek_of_sets(words: [u64; 1809], op: Op) {
+    say_seek(op, b"set {0, 5}, nothing wrong");
+    seek(words, op, 1, SET_0_5, -4, &[7, 120]);
+    say_seek(op, b"set {0}, nothing shared");
+    seek(words, op, 1, SET_0, -4, &[7, 120]);
 }
 
 fn seek_of_others_names(words: [u64; 1809], op: Op) {
-    say_seek(op, b"partition 6 not held");
-    seek(words, op, 1, 6, -4, &[7, 120]);
+    say_seek(op, b"set {6}, 6 not held");
+    seek(words, op, 1, SET_6, -4, &[7, 120]);
+    say_seek(op, b"set {5, 6}, 6 not held");
+    seek(words, op, 1, SET_5_6, -4, &[7, 120]);
+    say_seek(op, b"set of all 64, most not held");
+    seek(words, op, 1, SET_OF_ALL, -4, &[7, 120]);
     say_seek(op, b"key 4 not held");
-    seek(words, op, 1, 5, 4, &[7, 120]);
+    seek(words, op, 1, SET_5, 4, &[7, 120]);
     say_seek(op, b"partition 6 in a field, not held");
-    seek(words, op, 1, 5, -4, &[7, PARTITION + 6]);
+    seek(words, op, 1, SET_5, -4, &[7, PARTITION + 6]);
     say_seek(op, b"key 4 in a field, not held");
-    seek(words, op, 1, 5, -4, &[7, KEY + 35]);
+    seek(words, op, 1, SET_5, -4, &[7, KEY + 35]);
 }
 
 fn seek_refused_twice(words: [u64; 1809], op: Op) {
     say_seek(op, b"party 8, no field");
-    seek(words, op, 8, 5, -4, &[]);
-    say_seek(op, b"9 fields, partition 64");
-    seek(words, op, 1, 64, -4, &[7; 9]);
+    seek(words, op, 8, SET_5, -4, &[]);
+    say_seek(op, b"9 fields, empty set");
+    seek(words, op, 1, EMPTY, -4, &[7; 9]);
+    say_seek(op, b"9 fields, key 32");
+    seek(words, op, 1, SET_5, 32, &[7; 9]);
+    say_seek(op, b"empty set, field of kind 6");
+    seek(words, op, 1, EMPTY, -4, &[7, KIND_6]);
     say_seek(op, b"key 32, field of kind 6");
-    seek(words, op, 1, 5, 32, &[7, KIND_6]);
+    seek(words, op, 1, SET_5, 32, &[7, KIND_6]);
     say_seek(op, b"field of kind 6, 1 result word");
     seek_to_one_word(words, op, -4, &[7, KIND_6]);
     say_seek(op, b"1 result word, key 4 not held");
@@ -291,35 +364,35 @@ fn open_1808(roster: &[u64]) {
 fn put(
     words: [u64; 1809],
     party: u32,
-    rpart: u32,
+    rparts: u64,
     rkey: i32,
-    tpart: u32,
+    tparts: u64,
     tkey: i32,
     fields: &[u64],
 ) {
     let mut after = words;
-    let answer = space::put(&mut after, party, rpart, rkey, tpart, tkey, fields);
+    let answer = space::put(&mut after, party, rparts, rkey, tparts, tkey, fields);
     show(answer, same(&words, &after));
 }
 
 fn put_1808(words: [u64; 1809], party: u32) {
     let before = first_1808(words);
     let mut after = before;
-    let answer = space::put(&mut after, party, 5, 4, 5, 4, &[7]);
+    let answer = space::put(&mut after, party, SET_5, 4, SET_5, 4, &[7]);
     show(answer, same(&before, &after));
 }
 
-fn seek(words: [u64; 1809], op: Op, party: u32, partition: u32, key: i32, fields: &[u64]) {
+fn seek(words: [u64; 1809], op: Op, party: u32, partitions: u64, key: i32, fields: &[u64]) {
     let mut after = words;
     let mut result = [99u64; 8];
-    let answer = sought(&mut after, op, party, partition, key, fields, &mut result);
+    let answer = sought(&mut after, op, party, partitions, key, fields, &mut result);
     show(answer, same(&words, &after) & same(&[99; 8], &result));
 }
 
 fn seek_to_one_word(words: [u64; 1809], op: Op, key: i32, fields: &[u64]) {
     let mut after = words;
     let mut result = [99u64; 1];
-    let answer = sought(&mut after, op, 1, 5, key, fields, &mut result);
+    let answer = sought(&mut after, op, 1, SET_5, key, fields, &mut result);
     show(answer, same(&words, &after) & same(&[99; 1], &result));
 }
 
@@ -327,7 +400,7 @@ fn seek_1808(words: [u64; 1809], op: Op, party: u32) {
     let before = first_1808(words);
     let mut after = before;
     let mut result = [99u64; 8];
-    let answer = sought(&mut after, op, party, 5, -4, &[7, 120], &mut result);
+    let answer = sought(&mut after, op, party, SET_5, -4, &[7, 120], &mut result);
     show(answer, same(&before, &after) & same(&[99; 8], &result));
 }
 
@@ -414,15 +487,15 @@ fn sought(
     words: &mut [u64],
     op: Op,
     party: u32,
-    partition: u32,
+    partitions: u64,
     key: i32,
     fields: &[u64],
     result: &mut [u64],
 ) -> Answer {
     match op {
-        Op::Looking => space::look(words, party, partition, key, fields, result),
-        Op::Receiving => space::receive(words, party, partition, key, fields, result),
-        Op::Taking => space::take(words, party, partition, key, fields, result),
+        Op::Looking => space::look(words, party, partitions, key, fields, result),
+        Op::Receiving => space::receive(words, party, partitions, key, fields, result),
+        Op::Taking => space::take(words, party, partitions, key, fields, result),
     }
 }
 
