@@ -46,6 +46,7 @@ fn main() {
     put_of_bad_fields(words);
     put_of_bounds(words);
     put_of_others_names(words);
+    put_of_two_others_names(words);
     put_refused_twice(words);
     put_at_the_limit(words);
     seek_examples(words, Op::Looking);
@@ -203,6 +204,21 @@ fn put_of_others_names(words: [u64; 1809]) {
     put(words, 0, SET_5, 4, SET_5, 4, &[KEY + 27]);
 }
 
+fn put_of_two_others_names(words: [u64; 1809]) {
+    say(b"put, read set {5, 6}, 6 not held, read key -4 not held");
+    put(words, 0, SET_5_6, -4, SET_5, 4, &[7]);
+    say(b"put, read key -4 not held, take set {6}, 6 not held");
+    put(words, 0, SET_5, -4, SET_6, 4, &[7]);
+    say(b"put, read set {6}, 6 not held, carried key -4 not held");
+    put(words, 0, SET_6, 4, SET_5, 4, &[KEY + 27]);
+    say(b"put, take set {6}, 6 not held, carried partition 6 not held");
+    put(words, 0, SET_5, 4, SET_6, 4, &[PARTITION + 6]);
+    say(b"put, read key -4 not held, carried partition 6 not held");
+    put(words, 0, SET_5, -4, SET_5, 4, &[PARTITION + 6]);
+    say(b"put, take key -4 not held, carried key -4 not held");
+    put(words, 0, SET_5, 4, SET_5, -4, &[KEY + 27]);
+}
+
 fn put_refused_twice(words: [u64; 1809]) {
     say(b"put, party 8, no field");
     put(words, 8, SET_5, 4, SET_5, 4, &[]);
@@ -216,6 +232,8 @@ fn put_refused_twice(words: [u64; 1809]) {
     put(words, 0, SET_5, 4, SET_5, -32, &[WILDCARD]);
     say(b"put, wildcard, read set {5, 6}, 6 not held");
     put(words, 0, SET_5_6, 4, SET_5, 4, &[WILDCARD]);
+    say(b"put, wildcard, take set {6}, 6 not held");
+    put(words, 0, SET_5, 4, SET_6, 4, &[WILDCARD]);
     say(b"put, wildcard, read key -4 not held");
     put(words, 0, SET_5, -4, SET_5, 4, &[WILDCARD]);
 }
@@ -233,6 +251,8 @@ fn put_at_the_limit(words: [u64; 1809]) {
     put(full, 0, SET_5, 4, SET_5, 4, &[7]);
     say(b"put, 17th entry, take set {5, 6}, 6 not held");
     put(full, 0, SET_5, 4, SET_5_6, 4, &[7]);
+    say(b"put, 17th entry, take key -4 not held");
+    put(full, 0, SET_5, 4, SET_5, -4, &[7]);
     say(b"put, 17th entry, carried key -4 not held");
     put(full, 0, SET_5, 4, SET_5, 4, &[KEY + 27]);
 }
@@ -254,6 +274,7 @@ fn seek_examples(opened: [u64; 1809], op: Op) {
     seek_of_bounds(words, op);
     seek_of_sets(words, op);
     seek_of_others_names(words, op);
+    seek_of_two_others_names(words, op);
     seek_refused_twice(words, op);
     say_seek(op, b"nothing wrong");
     seek(words, op, 1, SET_5, -4, &[7, WILDCARD]);
@@ -297,14 +318,14 @@ fn seek_of_bad_fields(words: [u64; 1809], op: Op) {
     say_seek(op, b"wildcard with value 1");
     seek(words, op, 1, SET_5, -4, &[7, WILDCARD + 1]);
     say_seek(op, b"2 fields, 1 result word");
-    seek_to_one_word(words, op, -4, &[7, 120]);
+    seek_to_one_word(words, op, SET_5, -4, &[7, 120]);
 }
 
 fn seek_of_bounds(words: [u64; 1809], op: Op) {
     say_seek(op, b"a row with at least 7");
     seek(with_a_bound(words), op, 1, SET_5, -4, &[7, 120]);
     say_seek(op, b"bounds, 1 result word");
-    seek_to_one_word(words, op, -4, &[AT_MOST + 7, AT_LEAST + 120]);
+    seek_to_one_word(words, op, SET_5, -4, &[AT_MOST + 7, AT_LEAST + 120]);
     say_seek(op, b"bounds, nothing wrong");
     seek(words, op, 1, SET_5, -4, &[AT_MOST + 7, AT_LEAST + 120]);
 }
@@ -331,6 +352,15 @@ fn seek_of_others_names(words: [u64; 1809], op: Op) {
     seek(words, op, 1, SET_5, -4, &[7, KEY + 35]);
 }
 
+fn seek_of_two_others_names(words: [u64; 1809], op: Op) {
+    say_seek(op, b"set {5, 6}, 6 not held, key 4 not held");
+    seek(words, op, 1, SET_5_6, 4, &[7, 120]);
+    say_seek(op, b"set {6}, 6 not held, key 4 in a field, not held");
+    seek(words, op, 1, SET_6, -4, &[7, KEY + 35]);
+    say_seek(op, b"key 4 not held, partition 6 in a field, not held");
+    seek(words, op, 1, SET_5, 4, &[7, PARTITION + 6]);
+}
+
 fn seek_refused_twice(words: [u64; 1809], op: Op) {
     say_seek(op, b"party 8, no field");
     seek(words, op, 8, SET_5, -4, &[]);
@@ -343,9 +373,13 @@ fn seek_refused_twice(words: [u64; 1809], op: Op) {
     say_seek(op, b"key 32, field of kind 6");
     seek(words, op, 1, SET_5, 32, &[7, KIND_6]);
     say_seek(op, b"field of kind 6, 1 result word");
-    seek_to_one_word(words, op, -4, &[7, KIND_6]);
+    seek_to_one_word(words, op, SET_5, -4, &[7, KIND_6]);
+    say_seek(op, b"1 result word, set {5, 6}, 6 not held");
+    seek_to_one_word(words, op, SET_5_6, -4, &[7, 120]);
     say_seek(op, b"1 result word, key 4 not held");
-    seek_to_one_word(words, op, 4, &[7, 120]);
+    seek_to_one_word(words, op, SET_5, 4, &[7, 120]);
+    say_seek(op, b"1 result word, partition 6 in a field, not held");
+    seek_to_one_word(words, op, SET_5, -4, &[7, PARTITION + 6]);
 }
 
 // From here on: each call is made on a copy, which is then compared with the words as they were.
@@ -389,10 +423,10 @@ fn seek(words: [u64; 1809], op: Op, party: u32, partitions: u64, key: i32, field
     show(answer, same(&words, &after) & same(&[99; 8], &result));
 }
 
-fn seek_to_one_word(words: [u64; 1809], op: Op, key: i32, fields: &[u64]) {
+fn seek_to_one_word(words: [u64; 1809], op: Op, partitions: u64, key: i32, fields: &[u64]) {
     let mut after = words;
     let mut result = [99u64; 1];
-    let answer = sought(&mut after, op, 1, SET_5, key, fields, &mut result);
+    let answer = sought(&mut after, op, 1, partitions, key, fields, &mut result);
     show(answer, same(&words, &after) & same(&[99; 1], &result));
 }
 

@@ -11,7 +11,7 @@ use lib.Dec.{eqb, ltb}
 use lib.ListN.{length}
 use Rattle.rules.specs.Lists.{All}
 use Rattle.rules.specs.State.{live}
-use Rattle.rules.specs.Calls.{Table, firstThatApplies}
+use Rattle.rules.specs.Calls.{Table, firstThatApplies, heldTests}
 use Rattle.rules.specs.Words.{decode, sound}
 use Rattle.rules.proofs.ListLaws.{bool, passed, not-false, or-right}
 use Rattle.rules.proofs.Back.{sound-facts}
@@ -34,6 +34,10 @@ module _ (b : Bool) (n : ℕ) (ts : Table) where
   pub leaves : (v : Verdict) → b ≡ false → v ≡ verdict ts → v ≡ verdict ((b, n) ∷ ts)
   unfolding verdict
   leaves v h e = rw h e
+
+-- the tests of names, by what is held
+pub names-by : {a k f x y z : Bool} (v : Verdict) → a ≡ x → k ≡ y → f ≡ z → v ≡ verdict (heldTests a k f) → v ≡ verdict (heldTests x y z)
+names-by v p q r e = rw (p, q, r) at e
 
 -- ---- the tests that come first
 
@@ -93,6 +97,16 @@ verdict-passed ts e = go (firstThatApplies ts) e
     go : (o : Option ℕ) → Passed ≡ verdictOf o → o ≡ none
     go (some k) e = let z : _≡_ {A = ℕ} 0 1 = cc in absurd (omega arith)
     go none e = refl
+
+-- a table that begins with the tests xs, of which it is known what they say
+module _ (xs ys : Table) where
+  pub begin-decides : (n : ℕ) → Refused n ≡ verdict xs → Refused n ≡ verdict (xs ++ ys)
+  unfolding verdict
+  begin-decides n e = rw (first-append xs ys, verdict-refused xs n e) refl
+
+  pub begin-leaves : (v : Verdict) → Passed ≡ verdict xs → v ≡ verdict ys → v ≡ verdict (xs ++ ys)
+  unfolding verdict
+  begin-leaves v e h = rw (first-append xs ys, verdict-passed xs e) h
 
 -- an admission, back to its verdict
 pub admitted-refused : (v : Verdict) (p : Bool) (n : ℕ) → admission.Refused n ≡ admittedBy v p → Refused n ≡ v

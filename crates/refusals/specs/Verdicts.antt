@@ -17,7 +17,7 @@ abbrev pub verdictOf : Option ℕ → Verdict
 verdictOf none = Passed
 verdictOf (some n) = Refused n
 
--- R1 to R8: the number of the first test that applies, or passed
+-- R1 to R8, R13, R14: the number of the first test that applies, or passed
 unfoldable pub verdict : Table → Verdict
 verdict ts = verdictOf (firstThatApplies ts)
 
@@ -39,7 +39,7 @@ abbrev pub admittedAs : Bool → Admission
 admittedAs true = admission.Plain
 admittedAs false = admission.Bounded
 
--- R1 to R7: by the verdict, and whether all fields of the template are plain
+-- R1 to R7, R13, R14: by the verdict, and whether all fields of the template are plain
 abbrev pub admittedBy : Verdict → Bool → Admission
 admittedBy (Refused n) p = admission.Refused n
 admittedBy Passed p = admittedAs p

@@ -3,19 +3,19 @@
 use audit::Finding;
 ghost use mathlib.Core.Path.{_≡_};
 ghost use mathlib.Core.Bool.{true, not};
-ghost use mathlib.Core.List.{_∷_};
+ghost use mathlib.Core.List.{[], _∷_};
 ghost use Prim.Native.Nat.{_≤_, _<_};
 ghost use lib.ListN.{length};
 ghost use Rattle.rules.specs.Lists.{all};
-ghost use Rattle.rules.specs.Names.{keyInRange, heldIn};
+ghost use Rattle.rules.specs.Names.{keyInRange, stored, bit, heldIn};
 ghost use Rattle.rules.specs.Partitions.{sets};
 ghost use Rattle.rules.specs.Fields.{templateField, namesIn};
 ghost use Rattle.rules.specs.Matching.{pair, storedPair};
-ghost use Rattle.rules.specs.State.{holds, live};
-ghost use Rattle.rules.specs.Calls.{firstThatApplies, badPair, pairNames, putNames, seekNames, putTable, seekTable};
+ghost use Rattle.rules.specs.State.{live};
+ghost use Rattle.rules.specs.Calls.{firstThatApplies, badPair, heldTests, nameTests, putTable, seekTable};
 ghost use Rattle.rules.specs.Words.{decode, sound, badRoster};
 ghost use Rattle.words.specs.Kind.{plain};
-ghost use Rattle.refusals.specs.Verdicts.{verdict, firstTests, begun, refusalIn, admittedBy, admittedAs, boundsIn};
+ghost use Rattle.refusals.specs.Verdicts.{verdict, firstTests, begun, refusalIn, admittedBy, boundsIn};
 
 pub enum Verdict {
     Passed,
@@ -35,7 +35,7 @@ enum Begun {
     Refused(u32),
 }
 
-// R1 to R8
+// R1 to R8, R13, R14
 pub fn of_put(
     space: &[u64],
     party: u32,
@@ -59,7 +59,7 @@ pub fn of_put(
     if !rows::put_fields(fields) {
         return Verdict::Refused(5);
     }
-    if !put_held(
+    let names = put_names(
         space,
         party,
         read_partitions,
@@ -67,8 +67,9 @@ pub fn of_put(
         take_partitions,
         take_key,
         fields,
-    ) {
-        return Verdict::Refused(7);
+    );
+    if let Verdict::Refused(number) = names {
+        return Verdict::Refused(number);
     }
     if 16 <= live {
         return Verdict::Refused(8);
@@ -76,7 +77,7 @@ pub fn of_put(
     Verdict::Passed
 }
 
-// R1 to R7
+// R1 to R7, R13, R14
 pub fn of_seek(
     space: &[u64],
     party: u32,
@@ -101,16 +102,17 @@ pub fn of_seek(
     if room < template.len() {
         return Admission::Refused(6);
     }
-    if !seek_held(space, party, partitions, key, template) {
-        return Admission::Refused(7);
-    }
-    admitted(unbounded)
+    let names = seek_names(space, party, partitions, key, template);
+    admitted(names, unbounded)
 }
 
-// The answer where no test refuses.
-fn admitted(unbounded: bool) -> Admission
-    ensures { λ r. ⌜ r ≡ admittedAs unbounded ⌝ }
+// The answer where only the tests of names are left.
+fn admitted(names: Verdict, unbounded: bool) -> Admission
+    ensures { λ r. ⌜ r ≡ admittedBy names unbounded ⌝ }
 {
+    if let Verdict::Refused(number) = names {
+        return Admission::Refused(number);
+    }
     if unbounded {
         Admission::Plain
     } else {
@@ -207,8 +209,8 @@ fn template_fields(template: &[u64]) -> bool
     true
 }
 
-// R7
-fn put_held(
+// R13, R14, R7
+fn put_names(
     space: &[u64],
     party: u32,
     read_partitions: u64,
@@ -216,42 +218,59 @@ fn put_held(
     take_partitions: u64,
     take_key: i32,
     fields: &[u64],
-) -> bool
+) -> Verdict
     requires { ⌜ (length (now space) ≡ 1809) × (party < 8) × (keyInRange «read_key» ≡ true) × (keyInRange «take_key» ≡ true) × (length (now fields) ≤ 8) ⌝ }
-    ensures { λ r. ⌜ r ≡ all (holds (decode (now (space .entry))) party) (putNames sets (pair «read_partitions» «read_key») (pair «take_partitions» «take_key») (now (fields .entry))) ⌝ }
+    ensures { λ r. ⌜ r ≡ verdict (nameTests sets (decode (now (space .entry))) party (storedPair (pair «read_partitions» «read_key») ∷ storedPair (pair «take_partitions» «take_key») ∷ []) (now (fields .entry))) ⌝ }
 {
     let p = party as usize;
     let partitions = space[1 + p];
     let keys = space[9 + p];
-    let read_held = pair_held(partitions, keys, read_partitions, read_key);
-    let take_held = pair_held(partitions, keys, take_partitions, take_key);
-    let names_held = fields_held(partitions, keys, fields);
-    read_held & (take_held & names_held)
+    let read_in = words::set_held(partitions, read_partitions);
+    let take_in = words::set_held(partitions, take_partitions);
+    let has_read = key_held(keys, read_key);
+    let has_take = key_held(keys, take_key);
+    let within = read_in & take_in;
+    let has_keys = has_read & has_take;
+    missing(partitions, keys, within, has_keys, fields)
 }
 
-// R7. The names in fields first, so that the pair takes no registers meanwhile.
-fn seek_held(space: &[u64], party: u32, set: u64, key: i32, template: &[u64]) -> bool
+// R13, R14, R7
+fn seek_names(space: &[u64], party: u32, set: u64, key: i32, template: &[u64]) -> Verdict
     requires { ⌜ (length (now space) ≡ 1809) × (party < 8) × (keyInRange key ≡ true) × (length (now template) ≤ 8) ⌝ }
-    ensures { λ r. ⌜ r ≡ all (holds (decode (now (space .entry))) party) (seekNames sets (pair set key) (now (template .entry))) ⌝ }
+    ensures { λ r. ⌜ r ≡ verdict (nameTests sets (decode (now (space .entry))) party (storedPair (pair set key) ∷ []) (now (template .entry))) ⌝ }
 {
     let p = party as usize;
     let partitions = space[1 + p];
     let keys = space[9 + p];
-    if !fields_held(partitions, keys, template) {
-        return false;
-    }
-    pair_held(partitions, keys, set, key)
+    let within = words::set_held(partitions, set);
+    let has_key = key_held(keys, key);
+    missing(partitions, keys, within, has_key, template)
 }
 
-// R7: the names of a pair.
-fn pair_held(partitions: u64, keys: u64, set: u64, key: i32) -> bool
-    requires { ⌜ keyInRange key ≡ true ⌝ }
-    ensures { λ r. ⌜ r ≡ all (heldIn partitions keys) (pairNames sets (storedPair (pair set key))) ⌝ }
+// R13, R14, R7, by whether all partitions of pairs are held, all their keys, and the names in fields.
+fn missing(partitions: u64, keys: u64, within: bool, has_keys: bool, fields: &[u64]) -> Verdict
+    requires { ⌜ length (now fields) ≤ 8 ⌝ }
+    ensures { λ r. ⌜ r ≡ verdict (heldTests within «has_keys» (all (heldIn partitions keys) (namesIn (now (fields .entry))))) ⌝ }
 {
-    let has_partitions = words::set_held(partitions, set);
+    if !within {
+        return Verdict::Refused(13);
+    }
+    if !has_keys {
+        return Verdict::Refused(14);
+    }
+    if !fields_held(partitions, keys, fields) {
+        return Verdict::Refused(7);
+    }
+    Verdict::Passed
+}
+
+// R14: the key of a pair.
+fn key_held(keys: u64, key: i32) -> bool
+    requires { ⌜ keyInRange key ≡ true ⌝ }
+    ensures { λ r. ⌜ r ≡ bit keys (stored key) ⌝ }
+{
     let stored = words::stored_key(key);
-    let has_key = words::has_bit(keys, stored);
-    has_partitions & has_key
+    words::has_bit(keys, stored)
 }
 
 // R7: the names in fields.

@@ -7,21 +7,22 @@ use mathlib.Core.List.{List, [], _∷_, _++_, append-nil}
 use Prim.Native.Nat.{ℕ, _<_}
 use lib.Dec.{ltb, ltb→lt}
 use lib.ListN.{length}
-use Rattle.rules.specs.Lists.{keep, first, without, All}
+use Rattle.rules.specs.Lists.{all, keep, first, without, All}
 use Rattle.rules.specs.Names.{Name}
 use Rattle.rules.specs.Partitions.{sets}
 use Rattle.rules.specs.Fields.{namesIn}
 use Rattle.rules.specs.Matching.{storedPair, Entry, Op, looking, receiving, taking, matches}
 use Rattle.rules.specs.State.{State, holds, withEntries, wrote, live}
-use Rattle.rules.specs.Calls.{Call, put, seek, firstThatApplies, pairNames, putNames, seekNames, putTable, seekTable, table}
+use Rattle.rules.specs.Calls.{Call, put, seek, firstThatApplies, partitionsIn, keysIn, putTable, seekTable, table}
 use Rattle.rules.specs.Calls.{Outcome, decided, entryOf, removes, remaining, gained, finding, serve, step}
 use Rattle.rules.specs.Runs.{stateReply}
+use Rattle.rules.specs.Claims.{pairNames}
 use Rattle.rules.specs.Group.{Group, member, byGroup, CallInGrasp, unrefused, groupEntries}
 use Rattle.rules.proofs.BitLaws.{tOf, eqb-true}
 use Rattle.rules.proofs.ListLaws.{and-left, all-same, All-map, All-left, keep-append, first-keep, without-keep, without-others, keep-keep}
 use Rattle.rules.proofs.Gifts.{giveAll-entries, SameWords, holds-same, giveAll-alike}
 use Rattle.rules.proofs.StateRuns.{step-cases, serve-unrefused}
-use Rattle.rules.proofs.Grasp.{Contains, Apart, Closed, ours-miss, others-miss, others-words, needed-inside}
+use Rattle.rules.proofs.Grasp.{Contains, Apart, Closed, ours-miss, others-miss, others-words, names-inside}
 
 -- the members hold the same, and have the same live entries
 pub record SameView (g : Group) (s₁ s₂ : State) : Type 0 where
@@ -62,15 +63,19 @@ module _ (g : Group) where
       f : (e : Entry) → wrote who e ≡ true → own e ≡ true
       f e k = ap (member g) (eqb-true (e .writer) who k) ∙ hw
 
+  held-alike : (who : ℕ) (s₁ s₂ : State) → member g who ≡ true → SameView g s₁ s₂ → (l : List Name) → all (holds s₁ who) l ≡ all (holds s₂ who) l
+  held-alike who s₁ s₂ hw h l = all-same (holds s₁ who) (holds s₂ who) (holds-same who s₁ s₂ (h .held who hw)) l
+
   table-alike : (s₁ s₂ : State) (c : Call ℕ) → byGroup g c ≡ true → SameView g s₁ s₂ → table sets s₁ c ≡ table sets s₂ c
   unfolding byGroup putTable seekTable
   table-alike s₁ s₂ (put who r t fs) hw h =
-      rw (
-        all-same (holds s₁ who) (holds s₂ who) (holds-same who s₁ s₂ (h .held who hw)) (putNames sets r t fs),
-        live-alike who s₁ s₂ hw (h .entries),
-      ) refl
+      let same = held-alike who s₁ s₂ hw h in
+      let pairs = storedPair r ∷ storedPair t ∷ [] in
+      rw (same (partitionsIn sets pairs), same (keysIn pairs), same (namesIn fs), live-alike who s₁ s₂ hw (h .entries)) refl
   table-alike s₁ s₂ (seek op who p t room) hw h =
-      rw (all-same (holds s₁ who) (holds s₂ who) (holds-same who s₁ s₂ (h .held who hw)) (seekNames sets p t)) refl
+      let same = held-alike who s₁ s₂ hw h in
+      let pairs = storedPair p ∷ [] in
+      rw (same (partitionsIn sets pairs), same (keysIn pairs), same (namesIn t)) refl
 
   remaining-alike : (op : Op) (m : Entry → Bool) (es₁ es₂ : List Entry)
       → All (λ e. own e ≡ false → m e ≡ false) es₁ → All (λ e. own e ≡ false → m e ≡ false) es₂
@@ -101,7 +106,7 @@ module _ (g : Group) where
         m = matches sets op (storedPair p) t
 
         inside : Contains N (storedPair p)
-        inside = All-left N (pairNames sets (storedPair p)) (namesIn t) (needed-inside g N s₂ (seek op who p t room) h₂ hw n)
+        inside = All-left N (pairNames (storedPair p)) (namesIn t) (names-inside g N s₂ (seek op who p t room) h₂ hw n)
 
         a₁ : All (λ e. own e ≡ false → m e ≡ false) (s₁ .entries)
         a₁ = others-miss g N op (storedPair p) t inside (s₁ .entries) (h₁ .apart)

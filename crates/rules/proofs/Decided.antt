@@ -1,7 +1,7 @@
 -- A call on words by the first test of its table that applies: the law that the claims go by.
 use mathlib.Core.Path.{_≡_, refl, ap, ap₂, _∙_}
 use mathlib.Core.Logic.{_⊎_, inl, inr}
-use mathlib.Core.Bool.{Bool, true, false, false≢true}
+use mathlib.Core.Bool.{Bool, true, false, not, false≢true}
 use mathlib.Core.Option.{Option, none, some}
 use mathlib.Core.List.{List, [], _∷_, _++_}
 use Prim.Native.Nat.{ℕ, _<_}
@@ -10,7 +10,7 @@ use Rattle.rules.specs.Lists.{All}
 use Rattle.rules.specs.Partitions.{sets}
 use Rattle.rules.specs.State.{State}
 use Rattle.rules.specs.Calls.{Call, put, seek, partyOf, refused, Table, firstThatApplies, table, serve, decided, step}
-use Rattle.rules.specs.Words.{decode, sound, asked, resultOf, Exit, exit, exitOf, call, refusals}
+use Rattle.rules.specs.Words.{decode, sound, asked, resultOf, Exit, exit, exitOf, onWords, call, refusals}
 use Rattle.rules.specs.Group.{unrefused}
 use Rattle.rules.specs.Claims.{Passes, FirstApplies}
 use Rattle.rules.proofs.ListLaws.{bool, not-false, passed}
@@ -23,17 +23,25 @@ abbrev pub callBy : Option ℕ → List ℕ → Call (List ℕ) → Exit
 callBy (some n) ws c = exit (refused n) ws (resultOf c)
 callBy none ws c = exitOf (serve sets (decode ws) (asked c)) (resultOf c)
 
-pub call-by : (ws : List ℕ) (c : Call (List ℕ)) → call ws c ≡ callBy (firstThatApplies (refusals ws c)) ws c
-unfolding call step
-call-by ws c = go (bool (sound ws))
+-- by whatever table it is decided
+pub by-table : (ts : State → Call ℕ → Table) (ws : List ℕ) (c : Call (List ℕ))
+    → onWords (λ s c. decided (firstThatApplies (ts s c)) (serve sets s c) s) ws c
+    ≡ callBy (firstThatApplies ((not (sound ws), 1) ∷ ts (decode ws) (asked c))) ws c
+by-table ts ws c = go (bool (sound ws))
   where
     sound-by : sound ws ≡ true → (o : Option ℕ) → exitOf (decided o (serve sets (decode ws) (asked c)) (decode ws)) (resultOf c) ≡ callBy o ws c
     sound-by h (some n) = rw (encode-decode ws h) refl
     sound-by h none = refl
 
-    go : (sound ws ≡ true) ⊎ (sound ws ≡ false) → call ws c ≡ callBy (firstThatApplies (refusals ws c)) ws c
-    go (inl h) = rw h (sound-by h (firstThatApplies (table sets (decode ws) (asked c))))
+    go : (sound ws ≡ true) ⊎ (sound ws ≡ false)
+        → onWords (λ s c. decided (firstThatApplies (ts s c)) (serve sets s c) s) ws c
+        ≡ callBy (firstThatApplies ((not (sound ws), 1) ∷ ts (decode ws) (asked c))) ws c
+    go (inl h) = rw h (sound-by h (firstThatApplies (ts (decode ws) (asked c))))
     go (inr h) = rw h refl
+
+pub call-by : (ws : List ℕ) (c : Call (List ℕ)) → call ws c ≡ callBy (firstThatApplies (refusals ws c)) ws c
+unfolding call step
+call-by ws c = by-table (table sets) ws c
 
 -- a call that no test turns away
 module _ (ws : List ℕ) (c : Call (List ℕ)) (e : Passes ws c) where

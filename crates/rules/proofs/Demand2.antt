@@ -254,7 +254,7 @@ no-room-exactly-at-sixteen ws who r t fs h = rw (call-by ws c, eighth) (there (b
     full = leb (limitOf (decode ws) who) n
 
     eighth : firstThatApplies (refusals ws c) ≡ cond full (some 8) none
-    eighth = rw (h .one, le-ltb 7 who (h .two), h .three, h .four-read, h .four-take, h .five, h .seven) refl
+    eighth = rw (h .one, le-ltb 7 who (h .two), h .three, h .four-read, h .four-take, h .five, h .thirteen, h .fourteen, h .seven) refl
 
     there : (full ≡ true) ⊎ (full ≡ false) → callBy (cond full (some 8) none) ws c .answer ≡ refused 8 → n ≡ 16
     there (inl b) a =

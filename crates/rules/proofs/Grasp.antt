@@ -16,8 +16,9 @@ use Rattle.rules.specs.Partitions.{sets}
 use Rattle.rules.specs.Fields.{namesIn}
 use Rattle.rules.specs.Matching.{Pair, storedPair, Entry, Op, looking, receiving, taking, pairFor, fieldsAgree, keysAgree, matches}
 use Rattle.rules.specs.State.{State, holds, give, giveAll, withEntries}
-use Rattle.rules.specs.Calls.{Call, put, seek, partyOf, firstThatApplies, badPair, pairNames, putNames, seekNames, putTable, seekTable, table}
+use Rattle.rules.specs.Calls.{Call, put, seek, partyOf, firstThatApplies, badPair, partitionsIn, keysIn, putTable, seekTable, table}
 use Rattle.rules.specs.Calls.{entryOf, removes, remaining, gained, finding, serve, step}
+use Rattle.rules.specs.Claims.{pairNames, callNames}
 use Rattle.rules.specs.Group.{Group, member, byGroup, Reaches, EntryInGrasp, CallInGrasp, unrefused}
 use Rattle.rules.proofs.BitLaws.{eqb-true}
 use Rattle.rules.proofs.ListLaws.{bool, clash, and-left, and-right, or-right, not-false, passed, all-true, All-map, All-snoc, All-left, All-right, All-without, first-All}
@@ -26,23 +27,29 @@ use Rattle.rules.proofs.SetLaws.{SharedName, turned, agree-shared}
 use Rattle.rules.proofs.KeyLaws.{stored-le}
 use Rattle.rules.proofs.Kept.{All-gained}
 use Rattle.rules.proofs.Gifts.{giveAll-entries, EightEach, giveAll-eight, SameWords, holds-same, giveAll-other, holds-give}
+use Rattle.rules.proofs.NameTests.{apart-one, apart-two}
 use Rattle.rules.proofs.StateRuns.{step-cases, serve-unrefused}
 
 -- ---- what a call that no test turns away has
 
--- the names that a call needs
-abbrev pub needed : Call ℕ → List Name
-needed (put who r t fs) = putNames sets r t fs
-needed (seek op who p t room) = seekNames sets p t
-
-passed-holds : (s : State) (c : Call ℕ) → firstThatApplies (table sets s c) ≡ none → all (holds s (partyOf c)) (needed c) ≡ true
+passed-holds : (s : State) (c : Call ℕ) → firstThatApplies (table sets s c) ≡ none → all (holds s (partyOf c)) (callNames c) ≡ true
 unfolding putTable seekTable
 passed-holds s (put who r t fs) h =
-    let a : All (λ x. x .0 ≡ false) (putTable sets s who r t fs) = passed (putTable sets s who r t fs) h in
-    not-false (all (holds s who) (putNames sets r t fs)) (a .1 .1 .1 .1 .0)
+    let a = passed (putTable sets s who r t fs) h .1 .1 .1 .1 in
+    rw (
+      apart-two (holds s who) (namesIn fs) (storedPair r) (storedPair t),
+      not-false (all (holds s who) (partitionsIn sets (storedPair r ∷ storedPair t ∷ []))) (a .0),
+      not-false (all (holds s who) (keysIn (storedPair r ∷ storedPair t ∷ []))) (a .1 .0),
+      not-false (all (holds s who) (namesIn fs)) (a .1 .1 .0),
+    ) refl
 passed-holds s (seek op who p t room) h =
-    let a : All (λ x. x .0 ≡ false) (seekTable sets s who p t room) = passed (seekTable sets s who p t room) h in
-    not-false (all (holds s who) (seekNames sets p t)) (a .1 .1 .1 .1 .1 .0)
+    let a = passed (seekTable sets s who p t room) h .1 .1 .1 .1 .1 in
+    rw (
+      apart-one (holds s who) (namesIn t) (storedPair p),
+      not-false (all (holds s who) (partitionsIn sets (storedPair p ∷ []))) (a .0),
+      not-false (all (holds s who) (keysIn (storedPair p ∷ []))) (a .1 .0),
+      not-false (all (holds s who) (namesIn t)) (a .1 .1 .0),
+    ) refl
 
 passed-range : (s : State) (who : ℕ) (r t : Pair ℤ) (fs : List ℕ) → firstThatApplies (putTable sets s who r t fs) ≡ none
     → keyInRange (t .key) ≡ true
@@ -55,7 +62,7 @@ passed-range s who r t fs h =
 
 -- the names contain all names of the pair
 abbrev pub Contains : (Name → Type 0) → Pair ℕ → Type 0
-Contains N p = All N (pairNames sets p)
+Contains N p = All N (pairNames p)
 
 contains-key : (N : Name → Type 0) (p : Pair ℕ) → Contains N p → N (key (p .key))
 contains-key N p h = All-right N (sets .names (p .partitions)) (key (p .key) ∷ []) h .0
@@ -167,23 +174,23 @@ module _ (g : Group) (N : Name → Type 0) where
       go false = closed-with (s .entries) s (h .apart) h
 
   -- ---- a member's call keeps the invariant
-  pub needed-inside : (s : State) (c : Call ℕ) → Closed g N s → byGroup g c ≡ true → firstThatApplies (table sets s c) ≡ none → All N (needed c)
+  pub names-inside : (s : State) (c : Call ℕ) → Closed g N s → byGroup g c ≡ true → firstThatApplies (table sets s c) ≡ none → All N (callNames c)
   unfolding byGroup
-  needed-inside s c h hw e =
-      All-map (λ n. holds s (partyOf c) n ≡ true) N (λ n k. h .inside (partyOf c) n hw k) (needed c)
-      (all-true (holds s (partyOf c)) (needed c) (passed-holds s c e))
+  names-inside s c h hw e =
+      All-map (λ n. holds s (partyOf c) n ≡ true) N (λ n k. h .inside (partyOf c) n hw k) (callNames c)
+      (all-true (holds s (partyOf c)) (callNames c) (passed-holds s c e))
 
   own-served : (s : State) (c : Call ℕ) → Closed g N s → byGroup g c ≡ true → firstThatApplies (table sets s c) ≡ none → Closed g N (serve sets s c .state)
   unfolding byGroup
   own-served s (put who r t fs) h hw e =
-      let a : All N (putNames sets r t fs) = needed-inside s (put who r t fs) h hw e in
-      let b : All N (pairNames sets (storedPair t) ++ namesIn fs) = All-right N (pairNames sets (storedPair r)) (pairNames sets (storedPair t) ++ namesIn fs) a in
+      let a : All N (callNames (put who r t fs)) = names-inside s (put who r t fs) h hw e in
+      let b : All N (pairNames (storedPair t) ++ namesIn fs) = All-right N (pairNames (storedPair r)) (pairNames (storedPair t) ++ namesIn fs) a in
       closed-put (entryOf who r t fs) s
       (record {
         ours = λ _. record {
-          takes = All-left N (pairNames sets (storedPair t)) (namesIn fs) b;
+          takes = All-left N (pairNames (storedPair t)) (namesIn fs) b;
           range = stored-le (t .key) (passed-range s who r t fs e);
-          carried = All-right N (pairNames sets (storedPair t)) (namesIn fs) b;
+          carried = All-right N (pairNames (storedPair t)) (namesIn fs) b;
         };
         theirs = λ k. clash (member g who) hw k;
       }) h
@@ -192,14 +199,14 @@ module _ (g : Group) (N : Name → Type 0) where
       m : Entry → Bool
       m = matches sets op (storedPair p) t
 
-      a : All N (seekNames sets p t)
-      a = needed-inside s (seek op who p t room) h hw e
+      a : All N (callNames (seek op who p t room))
+      a = names-inside s (seek op who p t room) h hw e
 
       go : (o : Option Entry) → first m (s .entries) ≡ o → Closed g N (finding op who o (remaining op m (s .entries)) s .state)
       go none f = h
       go (some x) f =
           let r : Apart g N x × (m x ≡ true) = first-All (Apart g N) m (s .entries) x (h .apart) f in
-          let miss : member g (x .writer) ≡ false → m x ≡ false = λ z. theirs-miss N (storedPair p) t x op (r .0 .theirs z) (All-left N (pairNames sets (storedPair p)) (namesIn t) a) in
+          let miss : member g (x .writer) ≡ false → m x ≡ false = λ z. theirs-miss N (storedPair p) t x op (r .0 .theirs z) (All-left N (pairNames (storedPair p)) (namesIn t) a) in
           let w : member g (x .writer) ≡ true = elim (bool (member g (x .writer))) [ inl y ↦ y | inr z ↦ clash (m x) (r .1) (miss z) ] in
           closed-give who (gained op x) (withEntries (remaining op m (s .entries)) s) (All-gained N op x (r .0 .ours w .carried)) (closed-remaining op m s h)
 

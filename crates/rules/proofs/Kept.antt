@@ -188,7 +188,7 @@ entry-ok s who r t fs h =
         few = ltb-false (or-right (eqb (length fs) 0) (ltb 8 (length fs)) (q .1 .0));
         fieldsOk = not-false (all putField fs) (q .1 .1 .1 .0);
       },
-      leb-false (q .1 .1 .1 .1 .1 .0),
+      leb-false (q .1 .1 .1 .1 .1 .1 .1 .0),
     )
 
 remaining-ok : (op : Op) (m : Entry → Bool) (es : List Entry) → All EntryOk es → All EntryOk (remaining op m es)

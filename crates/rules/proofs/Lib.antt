@@ -11,12 +11,14 @@ pub mod Back
 pub mod Edits
 pub mod Gifts
 pub mod StateRuns
+pub mod NameTests
 pub mod Grasp
 pub mod Alike
 pub mod Isolation
 pub mod WordRuns
 pub mod Decided
 pub mod Lift
+pub mod ToldApart
 pub mod Demand1
 pub mod Demand2
 pub mod Looks

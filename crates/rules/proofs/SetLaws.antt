@@ -144,7 +144,7 @@ agree-and t e h = same-truth (not (eqb (bitAnd t e) 0)) (setsAgree t e) there ba
             clash (bit 0 (s .common)) z (zero-bit (s .common))
         go s (inr k) = rw k refl
 
--- R7: every partition of the set is held exactly if the set is what it has in common with what is held
+-- R13: every partition of the set is held exactly if the set is what it has in common with what is held
 pub held-and : (set held : ℕ) → set < 2 ^ 64 → eqb (bitAnd set held) set ≡ all (bit held) (bitsIn set)
 held-and set held h = same-truth (eqb (bitAnd set held) set) (all (bit held) (bitsIn set)) there back-again
   where

@@ -45,44 +45,55 @@ firstThatApplies (t ∷ ts) = cond (t .0) (some (t .1)) (firstThatApplies ts)
 abbrev pub badCount : List ℕ → Bool
 badCount fs = eqb (length fs) 0 || ltb 8 (length fs)
 
+-- C6, R14: the keys that pairs name
+abbrev pub keysIn : List (Pair ℕ) → List Name
+keysIn ps = map (λ p. key (p .key)) ps
+
+-- R13, R14, R7, by whether the partitions of pairs, their keys and the names in fields are held
+abbrev pub heldTests : Bool → Bool → Bool → Table
+heldTests partitions keys carried = (not partitions, 13) ∷ (not keys, 14) ∷ (not carried, 7) ∷ []
+
 -- the tests that ask what the partition word of a pair stands for
 module _ (R : Reading) where
   -- R4
   abbrev pub badPair : Pair ℤ → Bool
   badPair p = not (R .inRange (p .partitions)) || not (keyInRange (p .key))
 
-  -- C6, R7: the names in a pair
-  abbrev pub pairNames : Pair ℕ → List Name
-  pairNames p = R .names (p .partitions) ++ (key (p .key) ∷ [])
+  -- C6, R13: the partitions that pairs name
+  abbrev pub partitionsIn : List (Pair ℕ) → List Name
+  partitionsIn [] = []
+  partitionsIn (p ∷ ps) = R .names (p .partitions) ++ partitionsIn ps
 
-  -- C6, R7: the names that a call needs: those of its pairs, and those in its fields
-  abbrev pub putNames : Pair ℤ → Pair ℤ → List ℕ → List Name
-  putNames r t fs = pairNames (storedPair r) ++ (pairNames (storedPair t) ++ namesIn fs)
+  -- C6, R13, R14, R7: the tests of names, by a call's pairs and fields
+  abbrev pub nameTests : State → ℕ → List (Pair ℕ) → List ℕ → Table
+  nameTests s who ps fs =
+      heldTests (all (holds s who) (partitionsIn ps)) (all (holds s who) (keysIn ps)) (all (holds s who) (namesIn fs))
 
-  abbrev pub seekNames : Pair ℤ → List ℕ → List Name
-  seekNames p t = pairNames (storedPair p) ++ namesIn t
-
-  -- R2 to R8, for a put
-  unfoldable pub putTable : State → ℕ → Pair ℤ → Pair ℤ → List ℕ → Table
-  putTable s who r t fs =
+  -- R2 to R5, R8: the tests of a put, with those of names in their place
+  abbrev pub putTests : Table → State → ℕ → Pair ℤ → Pair ℤ → List ℕ → Table
+  putTests names s who r t fs =
       (ltb 7 who, 2)
       ∷ (badCount fs, 3)
       ∷ (badPair r || badPair t, 4)
       ∷ (not (all putField fs), 5)
-      ∷ (not (all (holds s who) (putNames r t fs)), 7)
-      ∷ (leb (limitOf s who) (live who (s .entries)), 8)
-      ∷ []
+      ∷ (names ++ ((leb (limitOf s who) (live who (s .entries)), 8) ∷ []))
 
-  -- R2 to R7, for a look, receive or take with that many result words
-  unfoldable pub seekTable : State → ℕ → Pair ℤ → List ℕ → ℕ → Table
-  seekTable s who p t room =
+  -- R2 to R6: the tests of a look, receive or take with that many result words, with those of names in their place
+  abbrev pub seekTests : Table → ℕ → Pair ℤ → List ℕ → ℕ → Table
+  seekTests names who p t room =
       (ltb 7 who, 2)
       ∷ (badCount t, 3)
       ∷ (badPair p, 4)
       ∷ (not (all templateField t), 5)
       ∷ (ltb room (length t), 6)
-      ∷ (not (all (holds s who) (seekNames p t)), 7)
-      ∷ []
+      ∷ names
+
+  -- R2 to R8, R13, R14: the tables
+  unfoldable pub putTable : State → ℕ → Pair ℤ → Pair ℤ → List ℕ → Table
+  putTable s who r t fs = putTests (nameTests s who (storedPair r ∷ storedPair t ∷ []) fs) s who r t fs
+
+  unfoldable pub seekTable : State → ℕ → Pair ℤ → List ℕ → ℕ → Table
+  seekTable s who p t room = seekTests (nameTests s who (storedPair p ∷ []) t) who p t room
 
   abbrev pub table : State → Call ℕ → Table
   table s (put who r t fs) = putTable s who r t fs
@@ -136,7 +147,7 @@ finding op who (some e) es s =
 abbrev pub sought : Op → ℕ → (Entry → Bool) → State → Outcome
 sought op who m s = finding op who (first m (s .entries)) (remaining op m (s .entries)) s
 
--- C7, R2 to R8: refused by a number and nothing changed, or served
+-- C7: refused by a number and nothing changed, or served
 abbrev pub decided : Option ℕ → Outcome → State → Outcome
 decided (some n) o s = unchanged (refused n) s
 decided none o s = o

@@ -87,7 +87,7 @@ twelve =
     ∷ asks taking 1 other (any ∷ any ∷ [])
     ∷ asks receiving 1 other (any ∷ any ∷ [])
     ∷ [])
-    ((done, []) ∷ (found 2, m 7 ∷ m 120 ∷ []) ∷ (refused 7, []) ∷ (found 2, m 7 ∷ m 120 ∷ []) ∷ (nothing, []) ∷ [])
+    ((done, []) ∷ (found 2, m 7 ∷ m 120 ∷ []) ∷ (refused 14, []) ∷ (found 2, m 7 ∷ m 120 ∷ []) ∷ (nothing, []) ∷ [])
     -- (f)
     ∷ coKeys (pos 31) (negsuc 30)
     ∷ coKeys (pos 0) (pos 0)

@@ -9,7 +9,7 @@ use Rattle.rules.specs.Names.{Name, partition, bit, bitsIn}
 pub record Reading : Type 0 where
   -- S6, R4: the words that may stand in a pair
   pub inRange : ℕ → Bool
-  -- C6, R7: the names that a word stands for
+  -- C6, R13: the names that a word stands for
   pub names : ℕ → List Name
   -- M3: a template's word agrees with an entry's
   pub agree : ℕ → ℕ → Bool
@@ -22,7 +22,7 @@ only c = 2 ^ c
 abbrev pub setInRange : ℕ → Bool
 setInRange set = not (eqb set 0)
 
--- N6, C6, R7: the names of a set: every partition in it
+-- N6, C6, R13: the names of a set: every partition in it
 unfoldable pub setNames : ℕ → List Name
 setNames set = map partition (bitsIn set)
 

@@ -136,11 +136,14 @@ exit a ws result = record { answer = a; space = ws; result = result }
 abbrev pub exitOf : Outcome → List ℕ → Exit
 exitOf o result = exit (o .answer) (encode (o .state)) (o .fields ++ drop (length (o .fields)) result)
 
--- R1: a space that is not sound is refused first; on a sound one the call is the state's
-unfoldable pub call : List ℕ → Call (List ℕ) → Exit
-call ws c = cond (sound ws) (exitOf (step sets (decode ws) (asked c)) (resultOf c)) (exit (refused 1) ws (resultOf c))
+-- R1: a space that is not sound is refused first; on a sound one the call is the state's, one step
+abbrev pub onWords : (State → Call ℕ → Outcome) → List ℕ → Call (List ℕ) → Exit
+onWords one ws c = cond (sound ws) (exitOf (one (decode ws) (asked c)) (resultOf c)) (exit (refused 1) ws (resultOf c))
 
--- R1 to R8: the whole table of a call on words
+unfoldable pub call : List ℕ → Call (List ℕ) → Exit
+call ws c = onWords (step sets) ws c
+
+-- R1 to R8, R13, R14: the whole table of a call on words
 abbrev pub refusals : List ℕ → Call (List ℕ) → Table
 refusals ws c = (not (sound ws), 1) ∷ table sets (decode ws) (asked c)
 

@@ -29,7 +29,7 @@ unfolding answerText
 answer-short done h = omega arith
 answer-short (found n) h = omega arith
 answer-short nothing h = omega arith
-answer-short (refused n) h = let l : length (decimal n) ≤ 1 = decimal-short 0 n (omega arith) in omega arith
+answer-short (refused n) h = let l : length (decimal n) ≤ 2 = decimal-short 1 n (omega arith) in omega arith
 
 found-few : (a : Answer) (result : List ℕ) → Small a → length (foundIn a result) ≤ 8
 found-few done result h = omega arith

@@ -1,4 +1,4 @@
--- Every answer of a call is small: at most 8 fields, and a refusal of at most 9.
+-- Every answer of a call is small: at most 8 fields, and a refusal of at most 14.
 use Prim.Native.Nat.{ℕ, _≤_}
 use mathlib.Core.Path.{_≡_, refl, subst}
 use mathlib.Core.Logic.{_⊎_, inl, inr}
@@ -17,18 +17,20 @@ use Rattle.rules.proofs.Back.{wf-decode}
 use Rattle.rules.proofs.Decided.{callBy, call-by, passes-sound}
 use Rattle.space.specs.Answers.{Small}
 
-numbers-small : (ts : Table) (n : ℕ) → All (λ t. t .1 ≤ 9) ts → firstThatApplies ts ≡ some n → n ≤ 9
+numbers-small : (ts : Table) (n : ℕ) → All (λ t. t .1 ≤ 14) ts → firstThatApplies ts ≡ some n → n ≤ 14
 numbers-small [] n h e = let z : _≡_ {A = ℕ} 0 1 = cc in absurd (omega arith)
 numbers-small (t ∷ ts) n h e = go (bool (t .0)) (numbers-small ts n (h .1))
   where
-    go : (t .0 ≡ true) ⊎ (t .0 ≡ false) → (firstThatApplies ts ≡ some n → n ≤ 9) → n ≤ 9
-    go (inl b) r = let e′ : some (t .1) ≡ some n = rw b at e in let q : t .1 ≡ n = cc in subst (λ (k : ℕ). k ≤ 9) q (h .0)
+    go : (t .0 ≡ true) ⊎ (t .0 ≡ false) → (firstThatApplies ts ≡ some n → n ≤ 14) → n ≤ 14
+    go (inl b) r = let e′ : some (t .1) ≡ some n = rw b at e in let q : t .1 ≡ n = cc in subst (λ (k : ℕ). k ≤ 14) q (h .0)
     go (inr b) r = r (rw b at e)
 
-table-small : (ws : List ℕ) (c : Call (List ℕ)) → All (λ t. t .1 ≤ 9) (refusals ws c)
+table-small : (ws : List ℕ) (c : Call (List ℕ)) → All (λ t. t .1 ≤ 14) (refusals ws c)
 unfolding putTable seekTable
-table-small ws (put who r t fs) = (omega arith, (omega arith, (omega arith, (omega arith, (omega arith, (omega arith, (omega arith, tt)))))))
-table-small ws (seek op who p t result) = (omega arith, (omega arith, (omega arith, (omega arith, (omega arith, (omega arith, (omega arith, tt)))))))
+table-small ws (put who r t fs) =
+    (omega arith, (omega arith, (omega arith, (omega arith, (omega arith, (omega arith, (omega arith, (omega arith, (omega arith, tt)))))))))
+table-small ws (seek op who p t result) =
+    (omega arith, (omega arith, (omega arith, (omega arith, (omega arith, (omega arith, (omega arith, (omega arith, (omega arith, tt)))))))))
 
 pub call-small : (ws : List ℕ) (c : Call (List ℕ)) → Small (call ws c .answer)
 call-small ws c = rw (call-by ws c) (go (firstThatApplies (refusals ws c)) refl)

@@ -29,12 +29,12 @@ meant (Found n) = found n
 meant None = nothing
 meant (answer.Refused n) = refused n
 
--- C5: the answers that calls give: at most 8 fields, and a refusal of at most 9
+-- C5: the answers that calls give: at most 8 fields, and a refusal of at most 14
 abbrev pub Small : calls.Answer → Type 0
 Small done = Unit {0}
 Small (found n) = n ≤ 8
 Small nothing = Unit {0}
-Small (refused n) = n ≤ 9
+Small (refused n) = n ≤ 14
 
 -- C5: "found" with the count n, "none", or the refusal's number, by what was sought
 abbrev pub answered : Sought → ℕ → calls.Answer
@@ -50,7 +50,7 @@ abbrev pub soughtBy : Option ℕ → search.Found → Sought
 soughtBy (some n) f = sought.Refused n
 soughtBy none f = atPlace f
 
--- R1 to R7, M5: the first refusal that applies, or where the search finds the oldest match
+-- R1 to R7, R13, R14, M5: the first refusal that applies, or where the search finds the oldest match
 unfoldable pub soughtIn : List ℕ → Op → ℕ → Pair ℤ → List ℕ → ℕ → Sought
 soughtIn ws op who p t room =
     soughtBy (firstThatApplies ((not (sound ws), 1) ∷ seekTable sets (decode ws) who p t room)) (place (matches sets op (storedPair p) t) (decode ws .entries))

@@ -153,7 +153,7 @@ fn obtain(
     Sought::At(row)
 }
 
-// R1 to R7, M5: what all three have in common: the oldest match is sought, and its fields are copied out.
+// R1 to R7, R13, R14, M5: what all three have in common: the oldest match is sought, and its fields are copied out.
 fn seek(
     space: &[u64],
     op: Op,

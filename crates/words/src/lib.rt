@@ -151,7 +151,7 @@ pub fn sets_agree(t: u64, e: u64) -> bool
     t & e != 0
 }
 
-// R7: every partition of the set is held.
+// R13: every partition of the set is held.
 pub fn set_held(partitions: u64, set: u64) -> bool
     ensures { λ r. ⌜ r ≡ all (bit partitions) (bitsIn set) ⌝ }
 {

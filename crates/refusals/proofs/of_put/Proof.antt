@@ -2,26 +2,25 @@
 use Prim.Native.Nat.{ℕ, _≤_, _<_}
 use mathlib.Core.Path.{_≡_, refl, sym, ap, ap₂, _∙_, subst}
 use mathlib.Core.Bool.{Bool, true, false, not, _||_}
-use mathlib.Core.List.{_∷_, _++_}
+use mathlib.Core.List.{[], _∷_, _++_}
 use mathlib.Core.Option.{none}
 use borrow.Author.Tests.{le-leb, lt-leb}
 use lib.IntN.{ℤ}
 use lib.ListN.{drop}
 use mir.Facts.{toZ-ofZ}
 use mir.Syntax.{w32}
-use Rattle.rules.specs.Lists.{all}
 use Rattle.rules.specs.Names.{keyInRange}
 use Rattle.rules.specs.Partitions.{sets}
-use Rattle.rules.specs.Matching.{Pair, pair}
-use Rattle.rules.specs.State.{holds, live}
-use Rattle.rules.specs.Calls.{Table, firstThatApplies, badPair, putNames, putTable}
+use Rattle.rules.specs.Matching.{Pair, pair, storedPair}
+use Rattle.rules.specs.State.{live}
+use Rattle.rules.specs.Calls.{Table, firstThatApplies, badPair, nameTests, putTable}
 use Rattle.rules.specs.Words.{decode, sound}
 use Rattle.rules.proofs.ListLaws.{or-left, or-right}
 use Rattle.rules.proofs.KeyLaws.{pair-in-range}
 use Rattle.refusals.specs.Verdicts.{verdict, firstTests, refusalIn}
 use Rattle.refusals.specs.declared.Verdict.{Verdict}
 use Rattle.refusals.specs.declared.Verdict.the-variants.{Refused}
-use Rattle.refusals.proofs.Tables.{decides, leaves, passes, first-decides, first-leaves, live-by, first-passed}
+use Rattle.refusals.proofs.Tables.{decides, leaves, passes, begin-decides, begin-leaves, first-decides, first-leaves, live-by, first-passed}
 use borrow.Author.Needs.{needs}
 use Rattle.refusals.proofs.of_put.Statement.{statement}
 use Rattle.refusals.proofs.of_put.Tie as tie
@@ -42,11 +41,17 @@ pairs-begun c = c .before .before
 abbrev fields-pairs : tie.After-put-fields → tie.Else1
 fields-pairs c = c .before
 
-abbrev held-fields : tie.After-put-held → tie.Else2
-held-fields c = c .before
+abbrev names-fields : tie.After-put-names → tie.Else2
+names-fields c = c .before
 
-abbrev held-begun : tie.After-put-held → tie.After-known-told
-held-begun c = pairs-begun (fields-pairs (held-fields c .before) .before)
+abbrev refused-names : tie.After-known-told2 → tie.After-put-names
+refused-names c = c .before .before .before
+
+abbrev passed-names : tie.After-enum-told2 → tie.After-put-names
+passed-names c = c .before .before
+
+abbrev names-begun : tie.After-put-names → tie.After-known-told
+names-begun c = pairs-begun (fields-pairs (names-fields c .before) .before)
 
 abbrev begun-start : tie.After-known-told → tie.Start
 begun-start c = tests-start (begun-tests c)
@@ -54,18 +59,23 @@ begun-start c = tests-start (begun-tests c)
 abbrev pairs-start : tie.After-bad-pair2 → tie.Start
 pairs-start c = begun-start (pairs-begun c)
 
-abbrev held-start : tie.After-put-held → tie.Start
-held-start c = begun-start (held-begun c)
+abbrev names-start : tie.After-put-names → tie.Start
+names-start c = begun-start (names-begun c)
 
--- the call's pairs, whether the names that it needs by its keys are held, and its table
+-- the call's pairs, the tests of its names, and its table
 abbrev readPair : tie.Start → Pair ℤ
 readPair s = pair (s .args .read-partitions) (s .args .read-key)
 
 abbrev takePair : tie.Start → Pair ℤ
 takePair s = pair (s .args .take-partitions) (s .args .take-key)
 
-abbrev heldBy : tie.Start → ℤ → ℤ → Bool
-heldBy s r t = let a = s .args in all (holds (decode (a .space .now)) (a .party)) (putNames sets (pair (a .read-partitions) r) (pair (a .take-partitions) t) (a .fields .now))
+abbrev namesBy : tie.Start → ℤ → ℤ → Table
+namesBy s r t =
+    let a = s .args in
+    nameTests sets (decode (a .space .now)) (a .party) (storedPair (pair (a .read-partitions) r) ∷ storedPair (pair (a .take-partitions) t) ∷ []) (a .fields .now)
+
+abbrev names : tie.Start → Table
+names s = namesBy s (s .args .read-key) (s .args .take-key)
 
 whole : tie.Start → Table
 whole s = let a = s .args in (not (sound (a .space .now)), 1) ∷ putTable sets (decode (a .space .now)) (a .party) (readPair s) (takePair s) (a .fields .now)
@@ -103,16 +113,22 @@ past-5 : (c : tie.Else2) → Past 5 (pairs-start (fields-pairs (c .before) .befo
 unfolding whole putTable
 past-5 c v e = past-4 (fields-pairs (c .before)) v (leaves _ 5 _ v (ap not (sym (c .before .put-fields .ensures)) ∙ c .if2 .left) e)
 
-held-is : (c : tie.After-put-held) → heldBy (held-start c) (held-start c .args .read-key) (held-start c .args .take-key) ≡ c .put-held .result
-held-is c = let s = held-start c in sym (c .put-held .ensures ∙ ap₂ (heldBy s) (toZ-ofZ {w = w32} (s .fits .read-key)) (toZ-ofZ {w = w32} (s .fits .take-key)))
+names-are : (c : tie.After-put-names) → c .put-names .result ≡ verdict (names (names-start c))
+names-are c =
+    let s = names-start c in
+    c .put-names .ensures ∙ ap₂ (λ (r t : ℤ). verdict (namesBy s r t)) (toZ-ofZ {w = w32} (s .fits .read-key)) (toZ-ofZ {w = w32} (s .fits .take-key))
 
-module _ (c : tie.Else3) where
-  past-6 : Past 6 (held-start (c .before))
+-- past the tests of names
+module _ (c : tie.After-enum-told2) where
+  past-8 : Past 8 (names-start (passed-names c))
   unfolding whole putTable
-  past-6 v e = past-5 (held-fields (c .before)) v (leaves _ 7 _ v (ap not (held-is (c .before)) ∙ c .if3 .left) e)
+  past-8 v e =
+      let s = names-start (passed-names c) in
+      past-5 (names-fields (passed-names c)) v
+      (begin-leaves (names s) (drop 8 (whole s)) v (sym (c .enum-told2 .given .1) ∙ names-are (passed-names c)) e)
 
-  live-is : let a = held-start (c .before) .args in held-begun (c .before) .before .begun .given .0 .0 ≡ live (a .party) (decode (a .space .now) .entries)
-  live-is = begun-is (held-begun (c .before)) .1
+  live-is : let a = names-start (passed-names c) .args in names-begun (passed-names c) .before .begun .given .0 .0 ≡ live (a .party) (decode (a .space .now) .entries)
+  live-is = begun-is (names-begun (passed-names c)) .1
 
 first-tests-requires : tie.Need-first-tests-requires
 first-tests-requires c κs = search needs
@@ -150,8 +166,8 @@ returns-3 : tie.Need-returns-3
 unfolding whole putTable
 returns-3 c = past-4 (fields-pairs (c .before)) _ (decides _ 5 _ (ap not (sym (c .before .put-fields .ensures)) ∙ c .if2 .taken))
 
-put-held-requires : tie.Need-put-held-requires
-put-held-requires c κs =
+put-names-requires : tie.Need-put-names-requires
+put-names-requires c κs =
     let pairs = fields-pairs (c .before) in
     let s = pairs-start (pairs .before) in
     let good : (badPair sets (readPair s) || badPair sets (takePair s)) ≡ false = pairs-are (pairs .before) ∙ pairs .if1 .left in
@@ -160,17 +176,26 @@ put-held-requires c κs =
     let f = first-passed _ _ _ (begun-is (pairs-begun (pairs .before)) .0) in
     (f .0, f .1, ap keyInRange (toZ-ofZ {w = w32} (s .fits .read-key)) ∙ read-key, ap keyInRange (toZ-ofZ {w = w32} (s .fits .take-key)) ∙ take-key, f .2)
 
+enum-known-names : tie.Need-enum-known-names
+enum-known-names c = search needs
+
 returns-4 : tie.Need-returns-4
 unfolding whole putTable
-returns-4 c = past-5 (held-fields (c .before)) _ (decides _ 7 _ (ap not (held-is (c .before)) ∙ c .if3 .taken))
+returns-4 c =
+    let at = refused-names c in
+    let s = names-start at in
+    past-5 (names-fields at) _ (begin-decides (names s) (drop 8 (whole s)) _ (sym (c .before .names .given .1) ∙ names-are at))
+
+enum-told-2 : tie.Need-enum-told-2
+enum-told-2 c = search needs
 
 returns-5 : tie.Need-returns-5
 unfolding whole putTable
-returns-5 c = past-6 (c .before) _ (decides _ 8 _ (le-leb _ _ (subst (λ (k : ℕ). 16 ≤ k) (live-is (c .before)) (c .if4 .taken))))
+returns-5 c = past-8 (c .before) _ (decides _ 8 _ (le-leb _ _ (subst (λ (k : ℕ). 16 ≤ k) (live-is (c .before)) (c .if3 .taken))))
 
 returns-6 : tie.Need-returns-6
 unfolding whole putTable
-returns-6 c = past-6 (c .before) _ (leaves _ 8 _ _ (lt-leb _ _ (subst (λ (k : ℕ). k < 16) (live-is (c .before)) (c .if4 .left))) passes)
+returns-6 c = past-8 (c .before) _ (leaves _ 8 _ _ (lt-leb _ _ (subst (λ (k : ℕ). k < 16) (live-is (c .before)) (c .if3 .left))) passes)
 
 pub of-put-spec : {M : Type 1} → statement M
 of-put-spec =
@@ -186,7 +211,9 @@ of-put-spec =
     returns-2
     put-fields-requires
     returns-3
-    put-held-requires
+    put-names-requires
+    enum-known-names
     returns-4
+    enum-told-2
     returns-5
     returns-6)

@@ -1,8 +1,8 @@
 -- `of_seek` meets its contract: past each test that fails, the rest of the table decides, and by its verdict the call is admitted.
 use Prim.Native.Nat.{ℕ}
 use mathlib.Core.Path.{_≡_, refl, sym, ap, _∙_}
-use mathlib.Core.Bool.{Bool, false, not}
-use mathlib.Core.List.{_∷_, _++_}
+use mathlib.Core.Bool.{false, not}
+use mathlib.Core.List.{[], _∷_, _++_}
 use mathlib.Core.Option.{none}
 use borrow.Author.Tests.{lt-ltb, le-ltb}
 use lib.IntN.{ℤ}
@@ -12,17 +12,16 @@ use mir.Syntax.{w32}
 use Rattle.rules.specs.Lists.{all}
 use Rattle.rules.specs.Names.{keyInRange}
 use Rattle.rules.specs.Partitions.{sets}
-use Rattle.rules.specs.Matching.{pair}
-use Rattle.rules.specs.State.{holds}
-use Rattle.rules.specs.Calls.{Table, firstThatApplies, badPair, seekNames, seekTable}
+use Rattle.rules.specs.Matching.{pair, storedPair}
+use Rattle.rules.specs.Calls.{Table, firstThatApplies, badPair, nameTests, seekTable}
 use Rattle.rules.specs.Words.{decode, sound}
 use Rattle.rules.proofs.KeyLaws.{pair-in-range}
 use Rattle.words.specs.Kind.{plain}
 use Rattle.refusals.specs.Verdicts.{verdict, firstTests, refusalIn, admittedBy}
 use Rattle.refusals.specs.declared.Admission.{Admission}
 use Rattle.refusals.specs.declared.Verdict.{Verdict}
-use Rattle.refusals.specs.declared.Verdict.the-variants.{Passed, Refused}
-use Rattle.refusals.proofs.Tables.{decides, leaves, passes, first-decides, first-leaves, live-by, first-passed}
+use Rattle.refusals.specs.declared.Verdict.the-variants.{Refused}
+use Rattle.refusals.proofs.Tables.{decides, leaves, first-decides, first-leaves, live-by, first-passed}
 use borrow.Author.Needs.{needs}
 use Rattle.refusals.proofs.of_seek.Statement.{statement}
 use Rattle.refusals.proofs.of_seek.Tie as tie
@@ -46,8 +45,8 @@ plain-pair c = c .before
 abbrev fields-pair : tie.After-fields-ok → tie.Else1
 fields-pair c = plain-pair (c .before)
 
-abbrev held-fields : tie.After-seek-held → tie.Else2
-held-fields c = c .before .before
+abbrev names-fields : tie.After-seek-names → tie.Else2
+names-fields c = c .before .before
 
 abbrev begun-start : tie.After-enum-told → tie.Start
 begun-start c = tests-start (begun-tests c)
@@ -58,12 +57,12 @@ pair-start c = begun-start (pair-begun c)
 abbrev fields-start : tie.After-fields-ok → tie.Start
 fields-start c = pair-start (fields-pair c .before)
 
-abbrev held-start : tie.After-seek-held → tie.Start
-held-start c = fields-start (held-fields c .before)
+abbrev names-start : tie.After-seek-names → tie.Start
+names-start c = fields-start (names-fields c .before)
 
--- whether the names that the call needs by its key are held, and its table
-abbrev heldBy : tie.Start → ℤ → Bool
-heldBy s k = let a = s .args in all (holds (decode (a .space .now)) (a .party)) (seekNames sets (pair (a .partitions) k) (a .template .now))
+-- the tests of the call's names by its key, and its table
+abbrev namesBy : tie.Start → ℤ → Table
+namesBy s k = let a = s .args in nameTests sets (decode (a .space .now)) (a .party) (storedPair (pair (a .partitions) k) ∷ []) (a .template .now)
 
 whole : tie.Start → Table
 whole s =
@@ -104,8 +103,8 @@ past-6 : (c : tie.Else3) → Past 6 (fields-start (c .before .before))
 unfolding whole seekTable
 past-6 c v e = past-5 (c .before) v (leaves _ 6 _ v (le-ltb _ _ (c .if3 .left)) e)
 
-held-is : (c : tie.After-seek-held) → heldBy (held-start c) (held-start c .args .key) ≡ c .seek-held .result
-held-is c = let s = held-start c in sym (c .seek-held .ensures ∙ ap (heldBy s) (toZ-ofZ {w = w32} (s .fits .key)))
+names-are : (c : tie.After-seek-names) → c .seek-names .result ≡ verdict (namesBy (names-start c) (names-start c .args .key))
+names-are c = let s = names-start c in c .seek-names .ensures ∙ ap (λ (k : ℤ). verdict (namesBy s k)) (toZ-ofZ {w = w32} (s .fits .key))
 
 first-tests-requires : tie.Need-first-tests-requires
 first-tests-requires c κs = search needs
@@ -151,30 +150,25 @@ returns-4 : tie.Need-returns-4
 unfolding whole seekTable
 returns-4 c = ap (admits (fields-start (c .before .before))) (past-5 (c .before) (Refused 6) (decides _ 6 _ (lt-ltb _ _ (c .if3 .taken))))
 
-seek-held-requires : tie.Need-seek-held-requires
-seek-held-requires c κs =
+seek-names-requires : tie.Need-seek-names-requires
+seek-names-requires c κs =
     let pair-test = fields-pair (c .before .before) in
     let s = pair-start (pair-test .before) in
     let good : badPair sets (pair (s .args .partitions) (s .args .key)) ≡ false = pair-is (pair-test .before) ∙ pair-test .if1 .left in
     let f = first-passed _ _ _ (begun-is (pair-begun (pair-test .before))) in
     (f .0, f .1, ap keyInRange (toZ-ofZ {w = w32} (s .fits .key)) ∙ pair-in-range (pair (s .args .partitions) (s .args .key)) good, f .2)
 
-returns-5 : tie.Need-returns-5
-unfolding whole seekTable
-returns-5 c =
-    ap (admits (held-start (c .before))) (past-6 (c .before .before) (Refused 7) (decides _ 7 _ (ap not (held-is (c .before)) ∙ c .if4 .taken)))
-
 admitted-requires : tie.Need-admitted-requires
 admitted-requires c κs = search needs
 
-returns-6 : tie.Need-returns-6
+returns-5 : tie.Need-returns-5
 unfolding whole seekTable
-returns-6 c =
-    let held = c .before .before in
-    let fields = held-fields held .before in
+returns-5 c =
+    let names = c .before in
+    let fields = names-fields names .before in
     c .admitted .ensures
-    ∙ ap (admittedBy Passed) (fields .before .plain-fields .ensures)
-    ∙ ap (admits (held-start held)) (past-6 (held .before) Passed (leaves _ 7 _ _ (ap not (held-is held) ∙ c .before .if4 .left) passes))
+    ∙ ap (admittedBy (names .seek-names .result)) (fields .before .plain-fields .ensures)
+    ∙ ap (admits (names-start names)) (past-6 (names .before) _ (names-are names))
 
 pub of-seek-spec : {M : Type 1} → statement M
 of-seek-spec =
@@ -191,7 +185,6 @@ of-seek-spec =
     fields-ok-requires
     returns-3
     returns-4
-    seek-held-requires
-    returns-5
+    seek-names-requires
     admitted-requires
-    returns-6)
+    returns-5)
