@@ -1,6 +1,6 @@
 /* Many small workloads, each one call, for bench/compare: every count of live entries, every length and form of template, wherever the
-   match is, each refusal, and sets of several partitions. Prints or dumps a line for each: its name, what the call answers, and its
-   instructions. Compiled with the header of the library that is counted.
+   match is, each refusal, wherever a name stands that isn't held, and sets of several partitions. Prints or dumps a line for each: its
+   name, what the call answers, and its instructions. Compiled with the header of the library that is counted.
 
    On a board, under `-icount shift=10`, an instruction takes 1,024 ns of the emulated clock and a tick of SysTick 40, so that the
    ticks of a single call give its instructions exactly. On the desk callgrind dumps its count under the workload's name. */
@@ -36,7 +36,7 @@ typedef uint64_t pair_set;
 #endif
 
 static uint64_t space[WORDS], kept[WORDS], result[8], fields[8];
-static struct { enum { LOOK, RECEIVE, TAKE, PUT, NOTHING } kind; uint32_t party, count, room; pair_set set; int32_t key; } call;
+static struct { enum { LOOK, RECEIVE, TAKE, PUT, NOTHING } kind; uint32_t party, count, room; pair_set set, take_set; int32_t key, take_key; } call;
 static volatile uint32_t answer;
 
 /* Called by their addresses, so that the way to a call is as long in every library. (The cast: to a look the space is const.) */
@@ -46,7 +46,7 @@ static seek *const seeks[] = {(seek *)space_look, space_receive, space_take};
 APART void measured(void)
 {
     if (call.kind <= TAKE) answer = seeks[call.kind](space, WORDS, call.party, call.set, call.key, fields, call.count, result, call.room);
-    else if (call.kind == PUT) answer = space_put(space, WORDS, call.party, call.set, call.key, call.set, call.key, fields, call.count);
+    else if (call.kind == PUT) answer = space_put(space, WORDS, call.party, call.set, call.key, call.take_set, call.take_key, fields, call.count);
 }
 
 /* Field i of the entry in row r: messages, of which only the last differs from row to row; with names the first two are a partition
@@ -136,17 +136,27 @@ static void templates(uint32_t live, uint32_t n, int names)
         }
 }
 
+/* Nobody holds partition 40 and key 9. */
+static void unheld(uint32_t live, uint32_t n)
+{
+    uint64_t word = fields[n - 1];
+    call.set = ONE(40), called(live, n, "a partition not held");
+    call.key = 9, called(live, n, "a partition and a key not held"), call.set = ONE(0);
+    called(live, n, "a key not held"), call.key = 0;
+    fields[n - 1] = PARTITION(40), called(live, n, "a partition in a field not held");
+    fields[n - 1] = STORED_KEY(40), called(live, n, "a key in a field not held"), fields[n - 1] = word;
+}
+
 /* Rows that the pair or the count leaves at once, and refusals. */
 static void misses(uint32_t live, uint32_t n)
 {
     for (uint32_t i = 0; i < n; i++) fields[i] = i % 2 ? ANY : i + 1;
+    unheld(live, n);
     call.set = ONE(3), called(live, n, "another partition"), call.set = ONE(0);
     call.key = -31, called(live, n, "another key"), call.key = 0;
-    call.set = OUT_OF_RANGE, called(live, n, "refused by 4");
-    call.set = ONE(40), called(live, n, "refused by 7"), call.set = ONE(0);
+    call.set = OUT_OF_RANGE, called(live, n, "refused by 4"), call.set = ONE(0);
     call.room = n - 1, called(live, n, "refused by 6"), call.room = 8;
     call.party = 8, called(live, n, "refused by 2"), call.party = 0;
-    fields[n - 1] = PARTITION(40), called(live, n, "refused by 7 for a field");
     fields[n - 1] = BAD, called(live, n, "a bad word");
     for (uint32_t i = 0; i < 8; i++) fields[i] = ANY;
     call.count = n == 8 ? 7 : n + 1, called(live, n, "another count"), call.count = n;
@@ -189,7 +199,7 @@ static void sets(uint32_t live, uint32_t n)
         snprintf(what, sizeof what, "sets: none shared, %s", forms[form]);
         call.set = both, called(live, n, what);
     }
-    call.set = ONE(1) | ONE(40), called(live, n, "sets: refused by 7 for one of two"), call.set = ONE(0);
+    call.set = ONE(1) | ONE(40), called(live, n, "sets: one of two not held"), call.set = ONE(0);
 }
 #endif
 
@@ -198,11 +208,15 @@ static void puts_(uint32_t live, uint32_t n)
     call.party = 7;
     for (uint32_t i = 0; i < n; i++) fields[i] = i;
     called(live, n, "messages");
+    unheld(live, n);
+    call.take_set = ONE(40), called(live, n, "a partition for taking not held");
+    call.key = 9, called(live, n, "a key for reading and a partition for taking not held"), call.key = 0, call.take_set = ONE(0);
+    call.take_key = 9, called(live, n, "a key for taking not held"), call.take_key = 0;
     fields[0] = PARTITION(5), called(live, n, "a name");
     fields[0] = ANY, called(live, n, "a bad word");
 #ifndef GRID_NUMBERS
-    fields[0] = 0, call.set = ONE(1) | ONE(2) | ONE(50), called(live, n, "sets: of three");
-    call.set = ONE(1) | ONE(40), called(live, n, "sets: refused by 7 for one of two");
+    fields[0] = 0, call.set = call.take_set = ONE(1) | ONE(2) | ONE(50), called(live, n, "sets: of three");
+    call.set = call.take_set = ONE(1) | ONE(40), called(live, n, "sets: one of two not held");
 #endif
 }
 
@@ -214,7 +228,8 @@ int main(void)
         for (uint32_t l = 0; l < 6; l++)
             for (uint32_t c = 0; c < 6; c++) {
                 uint32_t live = lives[l], n = counts[c];
-                call.kind = kind, call.party = 0, call.set = ONE(0), call.key = 0, call.count = n, call.room = 8;
+                call.kind = kind, call.party = 0, call.count = n, call.room = 8;
+                call.set = call.take_set = ONE(0), call.key = call.take_key = 0;
                 prepare(live, kind == PUT ? 8 : n, 0);
                 if (kind == PUT) { puts_(live, n); continue; }
                 templates(live, n, 0), misses(live, n);

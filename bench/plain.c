@@ -400,11 +400,17 @@ NOINLINE void search(struct template *t, int at)
 
 /* 4. The calls. */
 
+enum { OF_SET = 113, OF_KEY = 114, OF_FIELD = 107 }; /* where a name stands that isn't held */
+
 INLINE int bad_pair(uint64_t set, int32_t key) { return !set || (uint32_t)key + 31 > 62; }
 
-INLINE int pair_held(const uint64_t *s, uint32_t party, uint64_t set, int32_t key)
+INLINE int key_held(const uint64_t *s, uint32_t party, int32_t key) { return BIT(s[9 + party], (uint32_t)(key + 31)); }
+
+/* The refusal for a name of the pairs that isn't held, or 0: all sets come before the keys. A template has its key twice. */
+INLINE uint32_t lacking(const uint64_t *s, uint32_t party, uint64_t sets, int32_t key, int32_t other)
 {
-    return !(set & ~s[1 + party]) && BIT(s[9 + party], (uint32_t)(key + 31));
+    if (sets & ~s[1 + party]) return OF_SET;
+    return key_held(s, party, key) && key_held(s, party, other) ? 0 : OF_KEY;
 }
 
 NOINLINE int rights_held(const uint64_t *s, uint32_t party, const uint64_t *f, uint32_t n)
@@ -455,8 +461,9 @@ uint32_t plain_put(uint64_t *restrict s, uint64_t len, uint32_t party, uint64_t 
         kinds |= high(f[i]);
         if (!sound_field(f[i])) return 105;
     }
-    if (!pair_held(s, party, read_set, read_key) || !pair_held(s, party, take_set, take_key)) return 107;
-    if (kinds && !rights_held(s, party, f, count)) return 107;
+    uint32_t refusal = lacking(s, party, read_set | take_set, read_key, take_key);
+    if (refusal) return refusal;
+    if (kinds && !rights_held(s, party, f, count)) return OF_FIELD;
     if (((uint8_t *)&charges)[party] >= MOST) return 108; /* always with 128 rows */
     uint64_t *row = s + FIRST + ROW * low(s[0]); /* all 0 as yet */
     row[0] = party;
@@ -500,9 +507,10 @@ INLINE uint32_t prepare(struct template *t, const uint64_t *s, uint32_t party, u
     }
     finish(t);
     if (room < n) return 106;
-    if (!pair_held(s, party, set, key)) return 107;
+    uint32_t refusal = lacking(s, party, set, key, key);
+    if (refusal) return refusal;
     if (!kinds) return 0;
-    if (kinds != 4 && !rights_held(s, party, f, low(n))) return 107; /* not for bounds alone */
+    if (kinds != 4 && !rights_held(s, party, f, low(n))) return OF_FIELD; /* not for bounds alone */
     return kinds >= 4 ? BOUNDED : 0;
 }
 

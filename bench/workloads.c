@@ -26,6 +26,7 @@ static uint8_t file[SPACE_ROSTER_FILE_BYTES];
 static uint64_t file_len;
 static const uint64_t one[1] = {5}, any1[1] = {ANY}, any8[8] = {ANY, ANY, ANY, ANY, ANY, ANY, ANY, ANY};
 static const uint64_t last[8] = {1, 2, 3, 4, 5, 6, 7, 227}, entry[8] = {1, 2, 3, 4, 5, 6, 7, 8};
+static const uint64_t unheld[8] = {1, 2, 3, 4, 5, 6, 7, PARTITION + 40};
 static const uint64_t least[8] = {ANY, ANY, ANY, ANY, ANY, ANY, ANY, AT_LEAST + 227};
 static const uint64_t most[8] = {ANY, ANY, ANY, ANY, ANY, ANY, ANY, AT_MOST + 100};
 
@@ -44,7 +45,15 @@ static uint32_t take_oldest_put(void)
     uint32_t found = space_take(space, WORDS, 0, SET(0), 0, any8, 8, result, 8);
     return found + space_put(space, WORDS, 0, SET(0), 0, SET(0), 0, result, 8);
 }
-static uint32_t look_refused(void) { return space_look(space, WORDS, 0, SET(40), 0, last, 8, result, 8); }
+static uint32_t look_no_set(void) { return space_look(space, WORDS, 0, SET(40), 0, last, 8, result, 8); }
+static uint32_t look_no_key(void) { return space_look(space, WORDS, 0, SET(0), 9, last, 8, result, 8); }
+static uint32_t look_no_field(void) { return space_look(space, WORDS, 0, SET(0), 0, unheld, 8, result, 8); }
+static uint32_t take_no_set(void) { return space_take(space, WORDS, 0, SET(40), 0, last, 8, result, 8); }
+static uint32_t take_no_key(void) { return space_take(space, WORDS, 0, SET(0), 9, last, 8, result, 8); }
+static uint32_t take_no_field(void) { return space_take(space, WORDS, 0, SET(0), 0, unheld, 8, result, 8); }
+static uint32_t put_no_set(void) { return space_put(space, WORDS, 7, SET(0), 0, SET(40), 0, entry, 8); }
+static uint32_t put_no_key(void) { return space_put(space, WORDS, 7, SET(0), 0, SET(0), 9, entry, 8); }
+static uint32_t put_no_field(void) { return space_put(space, WORDS, 7, SET(0), 0, SET(0), 0, unheld, 8); }
 static uint32_t open_(void) { return space_open(space, WORDS, roster, 16); }
 static uint32_t put1(void) { return space_put(space, WORDS, 0, SET(0), 0, SET(0), 0, one, 1); }
 static uint32_t look1(void) { return space_look(space, WORDS, 0, SET(0), 0, any1, 1, result, 8); }
@@ -76,7 +85,7 @@ static const struct workload {
     {'a', 0, RISING, 0 + 1, put_take},
     {'b', 128, RISING, 8, look_last},
     {'c', 128, RISING, 8 + 0, take_oldest_put},
-    {'d', 128, RISING, 107, look_refused},
+    {'d', 128, RISING, 113, look_no_set},
     {'e', 128, RISING, 0, open_},
     {'f', 0, RISING, 0, put1},
     {'g', 0, RISING, 0, look1},
@@ -100,6 +109,14 @@ static const struct workload {
     {'y', 128, SETS, 0, look_disjoint},
     {'z', 128, SETS, 8, take_by_shared},
     {'A', 127, SETS, 0, put_under_sets},
+    {'B', 128, RISING, 114, look_no_key},
+    {'C', 128, RISING, 107, look_no_field},
+    {'D', 128, RISING, 113, take_no_set},
+    {'E', 128, RISING, 114, take_no_key},
+    {'F', 128, RISING, 107, take_no_field},
+    {'G', 127, RISING, 113, put_no_set},
+    {'H', 127, RISING, 114, put_no_key},
+    {'I', 127, RISING, 107, put_no_field},
 };
 enum { WORKLOADS = sizeof workloads / sizeof *workloads };
 

@@ -18,14 +18,16 @@ static void show(int number, uint32_t answer, int is_put, const uint64_t *result
     }
 }
 
-/* Party 0 puts its key 4 into a field. Party 1 looks at it and still can't put under key 4; once it has received it, it can. */
+/* Party 0 puts its key 4 into a field. Party 1 looks at it and still can't put under key 4, nor put the key into a field; once it
+   has received it, it can. */
 static int a_look_gives_no_names(void)
 {
     const uint64_t key[1] = {space_key(4)}, any[1] = {SPACE_WILDCARD}, five = space_set(5);
     uint64_t result[SPACE_MOST_FIELDS];
     return space_put(space, SPACE_WORDS, 0, five, 4, five, 4, key, 1) == 0
         && space_look(space, SPACE_WORDS, 1, five, -4, any, 1, result, SPACE_MOST_FIELDS) == 1 && result[0] == key[0]
-        && space_put(space, SPACE_WORDS, 1, five, 4, five, 4, key, 1) == 107
+        && space_put(space, SPACE_WORDS, 1, five, 4, five, 4, key, 1) == 114
+        && space_put(space, SPACE_WORDS, 1, five, -4, five, -4, key, 1) == 107
         && space_receive(space, SPACE_WORDS, 1, five, -4, any, 1, result, SPACE_MOST_FIELDS) == 1
         && space_put(space, SPACE_WORDS, 1, five, 4, five, 4, key, 1) == 0;
 }

@@ -1,8 +1,8 @@
 /* The proved library against plain C, call by call, on the machine that this runs on: the answer, every word of space and result,
-   what was lent to be read, and guard words around all of it. By itself it is seen that a look leaves every word of the space, and
-   that whoever receives or takes a name holds it. Calls at random come first, then each of the 128 rows in its turn. Prints how often
-   each answer was seen in the calls at random and a hash of their sequence, which is the same on every machine. Ends with status 1
-   where the two differ, or where something was never tried. */
+   what was lent to be read, and guard words around all of it. By itself it is seen that a look leaves every word of the space, that
+   whoever receives or takes a name holds it, and that a name which isn't held is refused by its own number. Calls at random come first,
+   then each of the 128 rows in its turn. Prints how often each answer was seen in the calls at random and a hash of their sequence,
+   which is the same on every machine. Ends with status 1 where the two differ, or where something was never tried. */
 #include "calls.h"
 #include "plain.h"
 #include "space.h"
@@ -11,7 +11,7 @@
 #ifndef CALLS
 #define CALLS 120000
 #endif
-enum { GUARDS = 8, BLOCK = 400, ANSWERS = 110, FIRST_MESSAGE = 1000 };
+enum { GUARDS = 8, BLOCK = 400, ANSWERS = 115, FIRST_MESSAGE = 1000 };
 
 struct lent {
     uint64_t before[GUARDS], space[WORDS], between[GUARDS], result[MOST_FIELDS], after[GUARDS];
@@ -80,9 +80,33 @@ enum { NONE, FOUND, ITS_NUMBER, BY_0, BY_THE_LARGEST, A_PARTITION, A_KEY, IN_A_P
 static uint32_t met[2][MEETINGS]; /* at least, at most */
 
 /* What came of the sets, by kind of call: found by another set than the entry's; by partitions above 31 alone; a row that agrees but for
-   its set; refused by 107 with a set that is held in part, and by 104 with an empty one, and nothing else that would be refused so. */
+   its set; refused by 113 with a set that is held in part, and by 104 with an empty one, and nothing else that would be refused so. */
 enum { BY_ANOTHER_SET, BY_UPPER, KEPT_AWAY, HELD_IN_PART, EMPTY_SET, SET_MEETINGS };
 static uint32_t by_sets[KINDS][SET_MEETINGS];
+
+/* What a call lacks, a bit each; the pair of a template counts as that for reading. Of calls that were refused for it: how often each was
+   lacked, with what else. Of calls that were refused by 106, and of puts with 16 live entries: how often something was. */
+enum { READ_SET_LACKED = 1, READ_KEY_LACKED = 2, TAKE_SET_LACKED = 4, TAKE_KEY_LACKED = 8, PARTITION_LACKED = 16, KEY_LACKED = 32, LACKS = 64 };
+#define SETS_LACKED (READ_SET_LACKED | TAKE_SET_LACKED)
+#define KEYS_LACKED (READ_KEY_LACKED | TAKE_KEY_LACKED)
+static uint32_t refused_for[KINDS][LACKS], short_and_lacking[KINDS], full_and_lacking[3]; /* of these by 113, 114, 107 */
+
+/* Of a call that is tested for names: not refused by a lower number than 106. */
+static uint32_t lacked_by(const struct call *c, const uint64_t *space)
+{
+    uint32_t all = 0;
+    for (uint32_t i = 0; i < (c->kind == PUT ? 2 : 1); i++) {
+        if (share(c->set[i], ~space[PARTITIONS_AT + c->party])) all |= READ_SET_LACKED << 2 * i;
+        if (!has(space[KEYS_AT + c->party], (uint32_t)(c->key[i] + 31))) all |= READ_KEY_LACKED << 2 * i;
+    }
+    for (uint32_t i = 0; i < c->count; i++)
+        if (c->list[i] < WILDCARD && lacks(space, c->party, c->list[i])) all |= c->list[i] < KEY_FIELD ? PARTITION_LACKED : KEY_LACKED;
+    return all;
+}
+
+static uint32_t refusal_for(uint32_t lacked) { return lacked & SETS_LACKED ? 113 : lacked & KEYS_LACKED ? 114 : lacked ? 107 : 0; }
+static int is_for_name(uint32_t answer) { return answer == 107 || answer == 113 || answer == 114; }
+static int is_after_names(uint32_t answer) { return answer <= MOST_FIELDS || answer == 108 || is_for_name(answer); }
 
 static void hash_in(uint64_t word) { hash = (hash ^ word) * 0x100000001b3u; }
 
@@ -117,20 +141,28 @@ static void count_bounds(const struct call *c, uint32_t answer)
     }
 }
 
-/* Of a call that is refused by 104 or 107: is nothing but sets the cause, empty ones or some that are held in part? */
+/* Of a call that is refused by 104 or 113: is nothing but sets the cause, empty ones or some that are held in part? */
 static void count_refused(const struct call *c, uint32_t answer)
 {
     uint64_t held = earlier[PARTITIONS_AT + c->party];
-    uint32_t empty = 0, in_part = 0, others = 0;
+    uint32_t empty = 0, in_part = 0, others = answer == 113 && lacked_by(c, earlier) & ~SETS_LACKED;
     for (uint32_t i = 0; i < (c->kind == PUT ? 2 : 1); i++) {
-        int32_t key = c->key[i];
         empty += !c->set[i];
         in_part += share(c->set[i], held) && share(c->set[i], ~held);
-        others += answer == 104 ? key < -31 || key > 31 : !share(c->set[i], held) || !has(earlier[KEYS_AT + c->party], (uint32_t)(key + 31));
+        others += answer == 104 ? c->key[i] < -31 || c->key[i] > 31 : !share(c->set[i], held);
     }
-    for (uint32_t i = 0; answer == 107 && i < c->count; i++) others += c->list[i] < WILDCARD && lacks(earlier, c->party, c->list[i]);
     by_sets[c->kind][EMPTY_SET] += answer == 104 && empty && !others;
-    by_sets[c->kind][HELD_IN_PART] += answer == 107 && in_part && !others;
+    by_sets[c->kind][HELD_IN_PART] += answer == 113 && in_part && !others;
+}
+
+static void count_names(const struct call *c, uint32_t answer)
+{
+    if (c->kind == OPEN || (answer != 106 && !is_for_name(answer))) return;
+    uint32_t lacked = lacked_by(c, earlier), live = 0;
+    if (answer == 106) short_and_lacking[c->kind] += lacked > 0;
+    else refused_for[c->kind][lacked]++;
+    for (uint32_t r = 0; c->kind == PUT && r < earlier[0]; r++) live += earlier[row_at(r) + WRITER] == c->party;
+    full_and_lacking[answer == 113 ? 0 : answer == 114 ? 1 : 2] += live == SHARE;
 }
 
 /* Does a row agree with a template in count, key and fields? One with bounds isn't asked about. */
@@ -147,7 +179,7 @@ static void count_sets(const struct call *c, uint32_t answer)
 {
     uint32_t *times = by_sets[c->kind], away = 0;
     if (c->kind == OPEN) return;
-    if (answer == 104 || answer == 107) count_refused(c, answer);
+    if (answer == 104 || answer == 113) count_refused(c, answer);
     if (c->kind == PUT || answer > MOST_FIELDS) return;
     for (uint32_t r = 0; r < earlier[0]; r++) {
         const uint64_t *row = earlier + row_at(r);
@@ -176,6 +208,7 @@ static void count(const struct call *c, uint32_t answer)
     answers[c->kind][answer]++;
     count_bounds(c, answer);
     count_sets(c, answer);
+    count_names(c, answer);
     lacked[c->kind] += lacking(c, answer, earlier) > 0;
     if (c->space_len >> 32) long_space++;
     else if (c->count >> 32) *(c->kind == OPEN ? &long_roster : &long_fields) += answer == (c->kind == OPEN ? 109 : 103);
@@ -196,6 +229,8 @@ static const char *difference(uint32_t by_library, uint32_t by_c, const struct c
     for (uint32_t i = 0; now->kind == LOOK && i < WORDS; i++)
         if (proved.space[i] != earlier[i]) return "space after a look";
     if (now->kind > LOOK && lacking(now, by_library, proved.space)) return "names";
+    if (now->kind != OPEN && is_after_names(by_library)
+        && refusal_for(lacked_by(now, earlier)) != (is_for_name(by_library) ? by_library : 0)) return "refusal for a name";
     for (uint32_t i = 0; i < GUARDS; i++)
         if (proved.before[i] != guard(i) || proved.between[i] != guard(GUARDS + i) || proved.after[i] != guard(2 * GUARDS + i)) return "guards";
     for (uint32_t i = 0; i < 18; i++)
@@ -345,21 +380,54 @@ static int tried(const char *what, uint32_t times)
     return times > 0;
 }
 
+/* Can a call of this kind be refused so? */
+static int is_refusal_of(uint32_t kind, uint32_t answer)
+{
+    if (kind == OPEN) return answer == 101 || answer == 109;
+    return is_for_name(answer) || (answer >= 101 && answer <= 105) || answer == (kind == PUT ? 108 : 106);
+}
+
+/* Every combination of what a call can lack, by itself. */
+static int all_lacked(const char *const *names)
+{
+    static const char *const lacked[] = {"a partition", "a key", "a partition and a key", "a name in a field", "a partition and a field's",
+                                         "a key and a field's", "all three"};
+    int ok = 1;
+    for (uint32_t kind = PUT; kind < KINDS; kind++) {
+        uint32_t sums[8] = {0}, seen = 0, all = 0;
+        for (uint32_t i = 1; i < LACKS; i++) {
+            if (kind != PUT && i & (TAKE_SET_LACKED | TAKE_KEY_LACKED)) continue;
+            all++, seen += refused_for[kind][i] > 0;
+            sums[!!(i & SETS_LACKED) + 2 * !!(i & KEYS_LACKED) + 4 * (i >= PARTITION_LACKED)] += refused_for[kind][i];
+        }
+        for (uint32_t i = 1; i < 8; i++) {
+            char what[64];
+            snprintf(what, sizeof what, "%s refused, lacking just %s:", names[kind], lacked[i - 1]);
+            ok &= tried(what, sums[i]);
+        }
+        printf("%s lacking: %u of %u combinations%s\n", names[kind], (unsigned)seen, (unsigned)all, seen == all ? "" : " FAILED: not all");
+        ok &= seen == all;
+    }
+    ok &= tried("put refused, lacking just the key for reading and a partition for taking:", refused_for[PUT][READ_KEY_LACKED | TAKE_SET_LACKED]);
+    ok &= tried("put with 16 live entries, refused by 113:", full_and_lacking[0]) & tried("by 114:", full_and_lacking[1]);
+    ok &= tried("by 107:", full_and_lacking[2]) & tried("lacking a name, and refused by 106, look:", short_and_lacking[LOOK]);
+    return ok & tried("receive:", short_and_lacking[RECEIVE]) & tried("take:", short_and_lacking[TAKE]);
+}
+
 static int all_tried(void)
 {
     static const char *const names[] = {"open", "put", "look", "receive", "take"}, *const bounds[] = {"at least", "at most"};
     static const char *const sets[] = {"found by another set", "found by partitions above 31 alone", "a row kept away by its set alone",
-                                       "refused by 107, a set held in part", "refused by 104, an empty set"};
+                                       "refused by 113, a set held in part", "refused by 104, an empty set"};
     static const char *const meetings[] = {"none", "found", "found, its own number", "0, found", "4294967295, found",
                                            "met with a partition", "met with a key", "refused in a put"};
     int ok = 1;
     for (uint32_t kind = 0; kind < KINDS; kind++)
         for (uint32_t a = 0; a < ANSWERS; a++) {
             int found = kind > PUT && a >= 1 && a <= MOST_FIELDS;
-            int refusal = kind == OPEN ? a == 101 || a == 109 : a >= 101 && a <= 108 && a != (kind == PUT ? 106 : 108);
             char what[32];
             snprintf(what, sizeof what, "%s answered %u:", names[kind], (unsigned)a);
-            if (a == 0 || found || refusal) ok &= tried(what, answers[kind][a]);
+            if (a == 0 || found || is_refusal_of(kind, a)) ok &= tried(what, answers[kind][a]);
             else if (answers[kind][a]) ok = 0, printf("FAILED: %s %u\n", what, (unsigned)answers[kind][a]);
         }
     ok &= tried("look found a name that the party lacked and goes on lacking:", lacked[LOOK]);
@@ -384,6 +452,7 @@ static int all_tried(void)
             snprintf(what, sizeof what, "%s, %s:", names[kind], sets[m]);
             ok &= tried(what, by_sets[kind][m]);
         }
+    ok &= all_lacked(names);
     ok &= tried("lengths of 2^32 and more, space:", long_space) & tried("roster:", long_roster) & tried("fields:", long_fields);
     ok &= tried("result, and found:", long_result) & tried("bit 63 in a roster:", bound_63);
     printf("most live rows %u%s\n", (unsigned)most_rows, most_rows == ROWS ? "" : " FAILED: never full");

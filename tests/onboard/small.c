@@ -20,8 +20,10 @@ int main(void)
     if (space_put(space, WORDS, 0, five, 4, five, 4, entry, 2) != 0) return 2;
     if (space_look(space, WORDS, 1, five, -4, first, 2, result, MOST_FIELDS) != 2 || result[1] != 120) return 3;
     if (space_look(space, WORDS, 1, with_0, -4, first, 2, result, MOST_FIELDS) != 2) return 15;
-    if (space_look(space, WORDS, 1, with_9, -4, first, 2, result, MOST_FIELDS) != 107) return 16;
-    if (space_take(space, WORDS, 0, five, -4, any, 2, result, MOST_FIELDS) != 107) return 4;
+    if (space_look(space, WORDS, 1, with_9, -4, first, 2, result, MOST_FIELDS) != 113) return 16;
+    if (space_take(space, WORDS, 0, five, -4, any, 2, result, MOST_FIELDS) != 114) return 4;
+    if (space_put(space, WORDS, 1, five, -4, five, -4, key_4, 1) != 107) return 17;
+    if (space_put(space, WORDS, 0, five, -4, with_9, 4, key_4, 1) != 113) return 18;
     for (int i = 0; i < SHARE; i++)
         if (space_put(space, WORDS, 1, 1, 0, 1, 0, any + 1, 1) != 105 || space_put(space, WORDS, 1, 1, 0, 1, 0, entry, 2) != 0) return 5;
     if (space_put(space, WORDS, 1, 1, 0, 1, 0, entry, 2) != 108) return 6;

@@ -123,7 +123,7 @@ pub fn answer_text(kind: Kind, code: u32) -> String {
         (Kind::Open | Kind::Put, 0) => "done".to_string(),
         (_, 0) => "none".to_string(),
         (Kind::Find(_), 1..=8) => format!("found {code}"),
-        (_, 101..=109) => format!("refusal {}", code - 100),
+        (_, 101..=109 | 113 | 114) => format!("refusal {}", code - 100),
         _ => format!("unknown answer {code}"),
     }
 }

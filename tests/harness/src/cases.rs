@@ -1,5 +1,5 @@
-//! The rules' cases, the examples of their refusals, a case of looks, one of bounds and one of
-//! sets, with answers and words written by hand.
+//! The rules' cases, the examples of their refusals, a case of looks, one of bounds, one of sets and
+//! one of names that aren't held, with answers and words written by hand.
 
 use crate::call::{answer_text, Call, Kind, Query};
 use crate::report::Report;
@@ -90,7 +90,7 @@ fn cases() -> Vec<(&'static str, Vec<Step>)> {
             vec![
                 step(put(0, pair(5, 4), &[7, 120]), 0),
                 finds(receive(1, pair(5, -4), &[7, WILDCARD]), &[7, 120]),
-                step(take(0, pair(5, -4), &all), REFUSED + 7),
+                step(take(0, pair(5, -4), &all), REFUSED + 14),
                 finds(take(1, pair(5, -4), &all), &[7, 120]),
                 step(receive(1, pair(5, -4), &all), 0),
             ],
@@ -108,10 +108,10 @@ fn cases() -> Vec<(&'static str, Vec<Step>)> {
             "k, with the words of g and h",
             vec![
                 step(put(0, pair(0, 0), &[PARTITION_5, KEY_4]), 0),
-                step(put(2, pair(5, 4), &[1]), REFUSED + 7),
+                step(put(2, pair(5, 4), &[1]), REFUSED + 13),
                 finds(receive(2, pair(0, 0), &all), &[PARTITION_5, KEY_4]),
                 step(put(2, pair(5, 4), &[1]), 0),
-                step(put(2, pair(5, -4), &[1]), REFUSED + 7),
+                step(put(2, pair(5, -4), &[1]), REFUSED + 14),
             ],
         ),
         ("l", vec![step(put(8, pair(0, 0), &[]), REFUSED + 2)]),
@@ -123,7 +123,9 @@ fn cases() -> Vec<(&'static str, Vec<Step>)> {
                 step(put(0, pair(0, -32), &[1]), REFUSED + 4),
                 step(put(0, pair(0, 0), &[WILDCARD]), REFUSED + 5),
                 step(with_short_result(Operation::Receive), REFUSED + 6),
-                step(receive(0, pair(5, -4), &[1]), REFUSED + 7),
+                step(receive(0, pair(9, -4), &[1]), REFUSED + 13),
+                step(look(0, pair(5, -4), &[1]), REFUSED + 14),
+                step(put(0, pair(5, 4), &[KEY_4 + 1]), REFUSED + 7),
                 step(
                     Call::Open {
                         roster: vec![0; 15],
@@ -152,8 +154,8 @@ fn looks() -> Vec<Step> {
         step(put(0, defaults, &[7, 120]), 0),
         finds(look(2, defaults, &all), &names),
         finds(look(2, defaults, &[7, WILDCARD]), &[7, 120]),
-        step(put(2, pair(5, 0), &[1]), REFUSED + 7),
-        step(put(2, pair(0, 4), &[1]), REFUSED + 7),
+        step(put(2, pair(5, 0), &[1]), REFUSED + 13),
+        step(put(2, pair(0, 4), &[1]), REFUSED + 14),
         step(look(2, defaults, &names), REFUSED + 7),
         finds(receive(2, defaults, &all), &names),
         step(put(2, pair(5, 4), &[1]), 0),
@@ -175,7 +177,9 @@ fn looks() -> Vec<Step> {
         step(look(0, pair(0, -32), &[KIND_6]), REFUSED + 4),
         step(look(0, pair(5, -4), &[KIND_6]), REFUSED + 5),
         step(with_short_result(Operation::Look), REFUSED + 6),
-        step(look(0, pair(5, -4), &[1]), REFUSED + 7),
+        step(look(0, pair(9, -4), &[KEY_4 + 1]), REFUSED + 13),
+        step(look(0, pair(5, -4), &[KEY_4 + 1]), REFUSED + 14),
+        step(look(0, pair(5, 4), &[KEY_4 + 1]), REFUSED + 7),
     ]
 }
 
@@ -235,12 +239,12 @@ fn sets() -> Vec<Step> {
         step(look(1, pair(0, -4), &[2]), 0),
         finds(take(1, under(both, -4), &[2]), &[2]),
         // Every partition of a set is held, or the call is refused.
-        step(put(0, under(one_more, 4), &[3]), REFUSED + 7),
-        step(by_two_sets(both, one_more, &[3]), REFUSED + 7),
-        step(by_two_sets(last + both, both, &[3]), REFUSED + 7),
-        step(look(1, under(one_more, -4), &[3]), REFUSED + 7),
-        step(receive(1, under(last + both, -4), &[3]), REFUSED + 7),
-        step(take(1, under(u64::MAX, -4), &[3]), REFUSED + 7),
+        step(put(0, under(one_more, 4), &[3]), REFUSED + 13),
+        step(by_two_sets(both, one_more, &[3]), REFUSED + 13),
+        step(by_two_sets(last + both, both, &[3]), REFUSED + 13),
+        step(look(1, under(one_more, -4), &[3]), REFUSED + 13),
+        step(receive(1, under(last + both, -4), &[3]), REFUSED + 13),
+        step(take(1, under(u64::MAX, -4), &[3]), REFUSED + 13),
         // The empty set, before a bad field.
         step(put(0, under(0, 4), &[KIND_6]), REFUSED + 4),
         step(by_two_sets(0, both, &[KIND_6]), REFUSED + 4),
@@ -257,10 +261,92 @@ fn sets() -> Vec<Step> {
         // A pair gives no name: party 2 doesn't hold partition 5 afterwards.
         step(put(0, under(both, 0), &[5]), 0),
         finds(receive(2, pair(0, 0), &[5]), &[5]),
-        step(look(2, pair(5, 0), &[5]), REFUSED + 7),
+        step(look(2, pair(5, 0), &[5]), REFUSED + 13),
         finds(take(2, pair(0, 0), &[5]), &[5]),
-        step(look(2, under(both, 0), &[5]), REFUSED + 7),
+        step(look(2, under(both, 0), &[5]), REFUSED + 13),
     ]
+}
+
+/// Pairs with names that party 0 doesn't hold, and words of such names: in the opening it has
+/// partition 5 and key 4.
+const HELD: Pair = pair(5, 4);
+const LACKING_SET: Pair = under(544, 4);
+const LACKING_KEY: Pair = pair(5, -4);
+const LACKING_BOTH: Pair = pair(9, -4);
+const PARTITION_9: u64 = PARTITION_5 + 4;
+const KEY_5: u64 = KEY_4 + 1;
+
+/// Puts that are refused for them, or before.
+fn puts_without_names() -> Vec<Step> {
+    let puts = [
+        (LACKING_SET, HELD, 1, 13),
+        (HELD, LACKING_SET, 1, 13),
+        (LACKING_KEY, HELD, 1, 14),
+        (HELD, LACKING_KEY, 1, 14),
+        (HELD, HELD, PARTITION_9, 7),
+        (HELD, HELD, KEY_5, 7),
+        (LACKING_KEY, LACKING_SET, 1, 13),
+        (LACKING_SET, LACKING_KEY, 1, 13),
+        (LACKING_BOTH, HELD, KEY_5, 13),
+        (HELD, LACKING_BOTH, PARTITION_9, 13),
+        (HELD, LACKING_KEY, PARTITION_9, 14),
+        (LACKING_KEY, HELD, KEY_5, 14),
+        (LACKING_KEY, LACKING_SET, KIND_6, 5),
+    ];
+    let step_of = |(read, take, field, due)| {
+        let call = Call::Put {
+            party: 0,
+            read,
+            take,
+            fields: vec![1, field],
+        };
+        step(call, REFUSED + due)
+    };
+    puts.map(step_of).to_vec()
+}
+
+/// The same of looks, receives and takes, at last with too few result words.
+fn finds_without_names() -> Vec<Step> {
+    let finds = [
+        (LACKING_SET, 1, 2, 13),
+        (LACKING_BOTH, 1, 2, 13),
+        (LACKING_BOTH, KEY_5, 2, 13),
+        (LACKING_KEY, 1, 2, 14),
+        (LACKING_KEY, PARTITION_9, 2, 14),
+        (HELD, KEY_5, 2, 7),
+        (HELD, PARTITION_9, 2, 7),
+        (LACKING_BOTH, KIND_6, 2, 5),
+        (LACKING_BOTH, 1, 1, 6),
+        (LACKING_KEY, 1, 1, 6),
+        (HELD, KEY_5, 1, 6),
+    ];
+    let operations = [Operation::Look, Operation::Receive, Operation::Take];
+    let steps = finds
+        .into_iter()
+        .flat_map(|(pair, field, result_len, due)| {
+            operations.map(|operation| {
+                let query = Query {
+                    result_len,
+                    ..query(0, pair, &[WILDCARD, field])
+                };
+                step(Call::Find(operation, query), REFUSED + due)
+            })
+        });
+    steps.collect()
+}
+
+/// Names that aren't held; for the puts a second time with sixteen live entries.
+fn missing_names() -> Vec<Step> {
+    let sixteen = vec![step(put(0, HELD, &[1]), 0); 16];
+    let one_more = vec![step(put(0, HELD, &[1]), REFUSED + 8)];
+    [
+        puts_without_names(),
+        finds_without_names(),
+        sixteen,
+        one_more,
+        puts_without_names(),
+    ]
+    .concat()
 }
 
 /// Makes the opening of the rules' cases: partition 5 for both, key 4 for 0 and -4 for 1.
@@ -305,6 +391,7 @@ pub fn check(report: &mut Report, who: &str, system: &mut dyn Space) {
         ("of looks", looks()),
         ("of bounds", bounds()),
         ("of sets", sets()),
+        ("of names that aren't held", missing_names()),
     ];
     for (name, steps) in cases().into_iter().chain(of_ours) {
         let outcome = run_case(system, &steps);

@@ -15,7 +15,7 @@ const EXAMPLE_INPUT: &str = include_str!("../../../crates/console/stdin");
 const EXAMPLE_OUTPUT: &str = include_str!("../../../crates/console/stdout");
 
 /// What an output line can say; each must come up.
-const SAYINGS: [&str; 14] = [
+const SAYINGS: [&str; 16] = [
     "names",
     "done",
     "found",
@@ -24,6 +24,8 @@ const SAYINGS: [&str; 14] = [
     "no3",
     "no4",
     "no5",
+    "no13",
+    "no14",
     "no7",
     "no8",
     "line 1 unreadable",
@@ -47,13 +49,23 @@ const BOUND_SAYINGS: [&str; 8] = [
 
 /// What can be said of a line by its word, and because of it if the line is unreadable. Each must
 /// come up as well.
-const WORD_SAYINGS: [&str; 22] = [
+const WORD_SAYINGS: [&str; 36] = [
+    "put done",
+    "put no2",
+    "put no3",
+    "put no4",
+    "put no5",
+    "put no13",
+    "put no14",
+    "put no7",
     "look found",
     "look none",
     "look no2",
     "look no3",
     "look no4",
     "look no5",
+    "look no13",
+    "look no14",
     "look no7",
     "receive found",
     "receive none",
@@ -61,6 +73,8 @@ const WORD_SAYINGS: [&str; 22] = [
     "receive no3",
     "receive no4",
     "receive no5",
+    "receive no13",
+    "receive no14",
     "receive no7",
     "take found",
     "take none",
@@ -68,16 +82,20 @@ const WORD_SAYINGS: [&str; 22] = [
     "take no3",
     "take no4",
     "take no5",
+    "take no13",
+    "take no14",
     "take no7",
     "read unreadable",
 ];
 
 /// What can be said of a line with several partitions in a place of a pair, and because of them if
 /// the line is unreadable. Each must come up as well.
-const SET_SAYINGS: [&str; 8] = [
+const SET_SAYINGS: [&str; 10] = [
     "set done",
     "set found",
     "set none",
+    "set no13",
+    "set no14",
     "set no7",
     "set unreadable",
     "set in a gift unreadable",

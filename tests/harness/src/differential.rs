@@ -122,6 +122,9 @@ pub fn compare(report: &mut Report, who: &str, system: &mut dyn Space) {
         Ok(text)
     });
     report.check(&format!("differential, {who}: answers reached"), reached);
+    print!("{}", duel.missing.table());
+    let lacked = duel.missing.check();
+    report.check(&format!("differential, {who}: names lacked"), lacked);
 }
 
 /// Gives the first difference of a wrong system, with the number of calls before it. Only the

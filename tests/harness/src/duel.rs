@@ -3,6 +3,7 @@
 use crate::bounds;
 use crate::call::{answer_text, found_fields, Call, Kind};
 use crate::guarded::Guarded;
+use crate::missing::Missing;
 use crate::pool::lacks_name_in;
 use crate::rng::Rng;
 use crate::rows;
@@ -60,7 +61,7 @@ impl Desk {
         )
     }
 
-    fn differences(&self, other: &Desk) -> Vec<String> {
+    pub fn differences(&self, other: &Desk) -> Vec<String> {
         let mut all = self.space.differences(&other.space, "space");
         all.extend(self.result.differences(&other.result, "result"));
         all.extend(self.input.differences(&other.input, "fields or roster"));
@@ -75,6 +76,7 @@ pub struct Duel<'a> {
     systems: Desk,
     references: Desk,
     pub tally: Tally,
+    pub missing: Missing,
 }
 
 impl<'a> Duel<'a> {
@@ -85,6 +87,7 @@ impl<'a> Duel<'a> {
             systems: Desk::new(),
             references: Desk::new(),
             tally: Tally::default(),
+            missing: Missing::default(),
         }
     }
 
@@ -118,6 +121,7 @@ impl<'a> Duel<'a> {
             return Err(difference_text(call, systems, code, &differences));
         }
         self.tally.count(call, code);
+        self.missing.count(call, code, &before.words);
         for what in bounds::happenings(call, code, self.references.result.lent(), before.rows()) {
             self.tally.happened(what);
         }

@@ -368,6 +368,16 @@ const REFUSED: [(bool, &str); 2] = [
     (false, "calls from elsewhere refused"),
 ];
 
+/// Calls that were refused for a name: whether they are the group's, and the answer.
+const LACKING: [(bool, u32, &str); 6] = [
+    (true, 113, "calls of the group refused by 13"),
+    (true, 114, "calls of the group refused by 14"),
+    (true, 107, "calls of the group refused by 7"),
+    (false, 113, "calls from elsewhere refused by 13"),
+    (false, 114, "calls from elsewhere refused by 14"),
+    (false, 107, "calls from elsewhere refused by 7"),
+];
+
 /// Unrefused calls: whether they are the group's, of which kind, and whether they found something.
 const OUTCOMES: [(bool, Kind, bool, &str); 14] = [
     (true, Kind::Put, false, "puts of the group done"),
@@ -422,6 +432,9 @@ impl Counts {
         let bounded = bounds::is_bounded(call);
         for (groups, what) in REFUSED {
             self.add_if(what, groups == of_group && outcome.is_none());
+        }
+        for (groups, refusal, what) in LACKING {
+            self.add_if(what, (groups, refusal) == (of_group, code));
         }
         for (groups, kind, found, what) in OUTCOMES {
             let such = (groups, kind, Some(found)) == (of_group, call.kind(), outcome);
@@ -622,6 +635,7 @@ fn isolation(system: &mut dyn Space) -> Result<String, String> {
         .into_iter()
         .chain(BOUNDED.map(|(.., what)| what))
         .chain(REFUSED.map(|(_, what)| what))
+        .chain(LACKING.map(|(.., what)| what))
         .chain(NAMES_LOOKED_AT.map(|(_, what)| what))
         .chain(ENTRIES_OF_GROUP.map(|(_, what)| what))
         .chain(FOUND_BY_ANOTHER.map(|(_, what)| what))
@@ -685,6 +699,7 @@ pub fn check_variants(report: &mut Report) {
         Variant::SmallestHeldIsEnough,
         Variant::HeldBelow32IsEnough,
         Variant::HeldByAnybodyIsEnough,
+        Variant::OneOfSeveralIsForgiven,
     ] {
         let mut system = Reference::with(variant);
         let outcome = differing_pairs(&mut system, VARIANT_SEED, Premise::Kept);

@@ -90,7 +90,7 @@ impl Asked {
 }
 
 /// A sound space, and the same or what was made of it.
-fn some_space(rng: &mut Rng, pool: &Pool) -> (Vec<u64>, Vec<u64>) {
+pub fn some_space(rng: &mut Rng, pool: &Pool) -> (Vec<u64>, Vec<u64>) {
     if rng.percent(15) {
         let damage = rng.pick(&Damage::ALL);
         return damaged_table(rng, pool, damage);
@@ -128,6 +128,7 @@ impl Counts {
     fn finish(&self) -> Result<String, String> {
         let missing: Vec<String> = (0..=8)
             .chain(101..=107)
+            .chain([113, 114])
             .filter(|code| !self.answers.contains_key(code))
             .map(|code| answer_text(Kind::LOOK, code))
             .collect();

@@ -20,6 +20,7 @@ mod isolation;
 #[cfg(library_linked)]
 mod library;
 mod looks;
+mod missing;
 mod pool;
 mod program;
 mod report;
@@ -34,6 +35,7 @@ mod singles;
 mod space;
 mod tables;
 mod tally;
+mod told_apart;
 mod variants;
 
 use looks::Look;
@@ -90,10 +92,7 @@ fn run_part(report: &mut Report, part: &str) -> Result<(), &'static str> {
         "reference" => {
             let mut reference = Reference::correct();
             cases::check(report, "reference", &mut reference);
-            differential::compare(report, "reference", &mut reference);
-            rows::compare(report, "reference", &mut reference);
-            looks::check(report, "reference", &mut reference);
-            singles::check(report, "reference", &mut reference);
+            compare_calls(report, "reference", &mut reference);
             isolation::check(report, "reference", &mut reference);
         }
         "variants" => {
@@ -101,17 +100,15 @@ fn run_part(report: &mut Report, part: &str) -> Result<(), &'static str> {
             rows::check_variants(report);
             looks::check_variants(report);
             singles::check_variants(report);
+            told_apart::check_variants(report);
             isolation::check_variants(report);
             console::check_variants(report);
             roster::check_variants(report);
         }
         "cases" => cases::check(report, "library", library()?.as_mut()),
         "differential" => {
-            differential::compare(report, "library", library()?.as_mut());
-            rows::compare(report, "library", library()?.as_mut());
-            looks::check(report, "library", library()?.as_mut());
+            compare_calls(report, "library", library()?.as_mut());
             looks::check_closed(report, look()?);
-            singles::check(report, "library", library()?.as_mut());
         }
         "isolation" => isolation::check(report, "library", library()?.as_mut()),
         "console" => {
@@ -124,6 +121,14 @@ fn run_part(report: &mut Report, part: &str) -> Result<(), &'static str> {
         }
     }
     Ok(())
+}
+
+fn compare_calls(report: &mut Report, who: &str, system: &mut dyn Space) {
+    differential::compare(report, who, system);
+    rows::compare(report, who, system);
+    looks::check(report, who, system);
+    singles::check(report, who, system);
+    told_apart::check(report, who, system);
 }
 
 #[cfg(library_linked)]

@@ -1,6 +1,7 @@
 //! Small pools of names, and random calls made from them that often match.
 
 use crate::call::{Call, Kind, Query};
+use crate::missing;
 use crate::rng::Rng;
 use crate::sets::pair_that_counts;
 use reference::names::{
@@ -176,7 +177,7 @@ impl Maker<'_> {
             Kind::Find(operation) => Call::Find(operation, self.query(rng, space, operation)),
         };
         while rng.percent(self.mix.broken) {
-            break_argument(rng, &mut call);
+            break_argument(rng, space, &mut call);
             if rng.percent(50) {
                 break;
             }
@@ -352,11 +353,20 @@ fn holds_names_of(space: &[u64], party: u32, word: u64) -> bool {
     }
 }
 
+/// The names in these fields that the party doesn't hold.
+pub fn lacked_names_in<'a>(
+    space: &'a [u64],
+    party: u32,
+    fields: &'a [u64],
+) -> impl Iterator<Item = Field> + 'a {
+    let lacked = move |word: &&u64| !holds_names_of(space, party, **word);
+    let fields = fields.iter().filter(lacked);
+    fields.filter_map(|word| Field::from_word(*word))
+}
+
 /// Whether these fields carry a name that the party doesn't hold.
 pub fn lacks_name_in(space: &[u64], party: u32, fields: &[u64]) -> bool {
-    fields
-        .iter()
-        .any(|word| !holds_names_of(space, party, *word))
+    lacked_names_in(space, party, fields).next().is_some()
 }
 
 /// A bound at the number in this word or just beside it, at either end, or anywhere.
@@ -372,15 +382,75 @@ fn bound_at(rng: &mut Rng, word: u64) -> u64 {
 }
 
 /// Breaks one argument: out of range, at an end of its type, or a name perhaps not held.
-fn break_argument(rng: &mut Rng, call: &mut Call) {
-    match rng.below(7) {
+fn break_argument(rng: &mut Rng, space: &[u64], call: &mut Call) {
+    match rng.below(9) {
         0 => break_party(rng, call),
         1 => break_count(rng, call),
         2 => break_pair(rng, call),
         3 => break_field(rng, call),
         4 => break_result(rng, call),
         5 => *some_pair(rng, call) = any_pair(rng),
-        _ => set_some_field(rng, call, any_name),
+        6 => set_some_field(rng, call, any_name),
+        _ => lack_names(rng, space, call),
+    }
+}
+
+/// Names that a party doesn't hold, some of each.
+struct Unheld {
+    partitions: Vec<u32>,
+    keys: Vec<i32>,
+}
+
+impl Unheld {
+    /// Of a party that holds all partitions or all keys there are none.
+    fn of(space: &[u64], party: u32) -> Option<Unheld> {
+        let partitions = (0..=LAST_PARTITION).filter(|at| !holds_partition(space, party, *at));
+        let keys = (-LAST_KEY..=LAST_KEY).filter(|key| !holds_key(space, party, *key));
+        let unheld = Unheld {
+            partitions: partitions.collect(),
+            keys: keys.collect(),
+        };
+        (!unheld.partitions.is_empty() && !unheld.keys.is_empty()).then_some(unheld)
+    }
+
+    /// Puts such names into a pair; the set may keep the others that it has.
+    fn lack_in_pair(&self, rng: &mut Rng, pair: &mut Pair, in_set: bool, in_key: bool) {
+        if in_set {
+            let others = rng.pick(&[0, pair.set]);
+            pair.set = others | partition_bit(rng.pick(&self.partitions));
+        }
+        if in_key {
+            pair.key = rng.pick(&self.keys);
+        }
+    }
+}
+
+/// Puts names that the party doesn't hold into any combination of places, if there are such names.
+fn lack_names(rng: &mut Rng, space: &[u64], call: &mut Call) {
+    let party = call.party().filter(|party| (*party as usize) < PARTIES);
+    let Some(unheld) = party.and_then(|party| Unheld::of(space, party)) else {
+        return;
+    };
+    let combinations: Vec<u32> = missing::combinations(call.kind()).collect();
+    let lacked = rng.pick(&combinations);
+    let has = |place: u32| lacked & place > 0;
+    let (in_set, in_key) = (has(missing::READ_SET), has(missing::READ_KEY));
+    match call {
+        Call::Open { .. } => {}
+        Call::Put { read, take, .. } => {
+            unheld.lack_in_pair(rng, read, in_set, in_key);
+            let (in_set, in_key) = (has(missing::TAKE_SET), has(missing::TAKE_KEY));
+            unheld.lack_in_pair(rng, take, in_set, in_key);
+        }
+        Call::Find(_, query) => unheld.lack_in_pair(rng, &mut query.pair, in_set, in_key),
+    }
+    if has(missing::PARTITION_IN_FIELD) {
+        set_some_field(rng, call, |rng| {
+            Field::Partition(rng.pick(&unheld.partitions)).word()
+        });
+    }
+    if has(missing::KEY_IN_FIELD) {
+        set_some_field(rng, call, |rng| Field::Key(rng.pick(&unheld.keys)).word());
     }
 }
 

@@ -53,11 +53,11 @@ const KEPT_BY_SEVERAL: Three = [
 ];
 /// With nothing else that is lacking.
 const HELD_IN_PART: Five = [
-    "sets: put refused by 7, the read set held in part",
-    "sets: put refused by 7, the take set held in part",
-    "sets: look refused by 7, the set held in part",
-    "sets: receive refused by 7, the set held in part",
-    "sets: take refused by 7, the set held in part",
+    "sets: put refused by 13, the read set held in part",
+    "sets: put refused by 13, the take set held in part",
+    "sets: look refused by 13, the set held in part",
+    "sets: receive refused by 13, the set held in part",
+    "sets: take refused by 13, the set held in part",
 ];
 /// With nothing else in the pairs that is out of range.
 const EMPTY: Five = [
@@ -141,7 +141,7 @@ pub fn happenings(call: &Call, code: u32, before: &Before) -> Vec<&'static str> 
                 let alone = key_in_range(pair.key) && others.all(in_range);
                 all.extend(happened(EMPTY, pair.set == 0 && alone));
             }
-            107 => {
+            113 => {
                 let party = call.party().unwrap_or_default();
                 let (held, lacking) = held_of(before.words, party, pair.set);
                 let alone = holds_key(before.words, party, pair.key)

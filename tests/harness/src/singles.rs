@@ -79,8 +79,8 @@ impl Counts {
 
     /// No refusal by 1 can come, since the space stays sound.
     fn finish(&self) -> Result<String, String> {
-        let of_finds = (0..=8).chain(102..=107);
-        let of_puts = [0, 102, 103, 104, 105, 107, 108];
+        let of_finds = (0..=8).chain(102..=107).chain([113, 114]);
+        let of_puts = [0, 102, 103, 104, 105, 113, 114, 107, 108];
         let finds = [Kind::LOOK, Kind::RECEIVE, Kind::TAKE];
         let wanted = finds
             .into_iter()
@@ -192,7 +192,8 @@ pub fn check(report: &mut Report, who: &str, system: &mut dyn Space) {
     );
 }
 
-/// The harness itself is tested: whatever takes a set of one wrongly must be caught.
+/// The harness itself is tested: whatever takes a set of one wrongly must be caught, and whatever
+/// tells wrongly which name isn't held.
 pub fn check_variants(report: &mut Report) {
     for variant in [
         Variant::DefaultPartitionMatchesAll,
@@ -211,6 +212,9 @@ pub fn check_variants(report: &mut Report) {
         Variant::Partition63InRowIsUnsound,
         Variant::WordAbove63InRowIsUnsound,
         Variant::NoneBelow32InRowIsUnsound,
+        Variant::OneRefusalForNames,
+        Variant::KeysBeforePartitions,
+        Variant::NamesPairByPair,
     ] {
         let outcome = match compare_runs(&mut Reference::with(variant)) {
             Err((alike, _)) => Ok(format!("after {alike} runs alike")),

@@ -14,16 +14,17 @@ pub struct Tally {
 }
 
 /// Whether the rules make an answer of this kind of call possible.
-fn possible(kind: Kind, code: u32) -> bool {
+pub fn possible(kind: Kind, code: u32) -> bool {
     match kind {
         Kind::Open => matches!(code, 0 | 101 | 109),
-        Kind::Put => matches!(code, 0 | 101..=105 | 107 | 108),
-        Kind::Find(_) => matches!(code, 0..=8 | 101..=107),
+        Kind::Put => matches!(code, 0 | 101..=105 | 113 | 114 | 107 | 108),
+        Kind::Find(_) => matches!(code, 0..=8 | 101..=106 | 113 | 114 | 107),
     }
 }
 
-fn codes() -> impl Iterator<Item = u32> {
-    (0..=8).chain(101..=109)
+/// All answers, refusals in the order of their table.
+pub fn codes() -> impl Iterator<Item = u32> {
+    (0..=8).chain(101..=106).chain([113, 114]).chain(107..=109)
 }
 
 impl Tally {

@@ -12,6 +12,7 @@ pub fn check(report: &mut Report) {
         .chain(Variant::OPERATION_SLIPS)
         .chain(Variant::BOUND_SLIPS)
         .chain(Variant::SET_SLIPS)
+        .chain(Variant::NAME_SLIPS)
         .chain(Variant::ROW_SLIPS)
         .chain(Variant::skipped_clauses());
     for variant in wrong {

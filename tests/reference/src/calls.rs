@@ -1,9 +1,10 @@
 //! The five calls: open, put, look, receive and take.
 
 use crate::answer::Answer;
+use crate::missing::Used;
 use crate::names::{
     co_key, has_partition, key_bit, key_in_range, key_of_stored, may_be_put, partition_bit,
-    stored_key, Field, Pair, LAST_PARTITION, MOST_FIELDS, PARTIES,
+    stored_key, Field, Pair, MOST_FIELDS, PARTIES,
 };
 use crate::sets::Place;
 use crate::table::{
@@ -33,7 +34,7 @@ pub struct Query<'a> {
 /// The reference, right or with a blunder.
 #[derive(Clone, Debug)]
 pub struct Reference {
-    variant: Variant,
+    pub(crate) variant: Variant,
     /// Used only by the blunders about charges; the right charge is counted from the rows.
     charges: [usize; PARTIES],
 }
@@ -179,16 +180,18 @@ impl Reference {
             return Some(5);
         }
         let party = party as usize;
-        if !self.holds_pair(space, party, read)
-            || !self.holds_pair(space, party, take)
-            || !holds_names_in(space, party, fields)
-        {
-            return Some(7);
+        let used = Used {
+            operation: None,
+            party,
+            pairs: &[read, take],
+            fields,
+        };
+        let lacking = self.names_refusal(space, used);
+        let full = (self.charge(space, party) >= self.limit()).then_some(8);
+        match self.variant {
+            Variant::TestsLimitBeforeNames => full.or(lacking),
+            _ => lacking.or(full),
         }
-        if self.charge(space, party) >= self.limit() {
-            return Some(8);
-        }
-        None
     }
 
     /// The refusals of a look, a receive or a take, in the order of the rules' table.
@@ -216,26 +219,24 @@ impl Reference {
         {
             return Some(5);
         }
-        if result_len < fields.len() && self.variant != Variant::TestsResultLate {
-            return Some(6);
+        let used = Used {
+            operation: Some(operation),
+            party: party as usize,
+            pairs: &[pair],
+            fields,
+        };
+        let lacking = self.names_refusal(space, used);
+        let short = (result_len < fields.len()).then_some(6);
+        match self.variant {
+            Variant::TestsResultLate => lacking,
+            Variant::TestsNamesBeforeResult => lacking.or(short),
+            _ => short.or(lacking),
         }
-        let party = party as usize;
-        let holds = self.holds_pair(space, party, pair)
-            && holds_names_in(space, party, fields)
-            && !self.misses_partition(space, party, fields);
-        if !holds && (self.variant, operation) != (Variant::LookNeedsNoNames, Operation::Look) {
-            return Some(7);
-        }
-        None
     }
 
     /// Whether a pair that a call names there is in range.
     fn in_range(&self, place: Place, pair: Pair) -> bool {
         self.variant.may_name(place, pair.set) && key_in_range(pair.key)
-    }
-
-    fn holds_pair(&self, space: &[u64], party: usize, pair: Pair) -> bool {
-        self.variant.holds_set(space, party, pair.set) && holds_key(space, party, pair.key)
     }
 
     fn sound(&self, operation: Option<Operation>, space: &[u64]) -> bool {
@@ -292,19 +293,6 @@ impl Reference {
             Variant::KindSixIsWildcard if word >> 32 == 6 => Some(Field::Wildcard),
             _ => Field::from_word(word),
         }
-    }
-
-    /// Whether a slip finds a partition in the template that the party doesn't hold: nobody has
-    /// to hold anything for a bound.
-    fn misses_partition(&self, space: &[u64], party: usize, fields: &[u64]) -> bool {
-        fields
-            .iter()
-            .any(|word| match (self.variant, Field::from_word(*word)) {
-                (Variant::AtMostNamesPartition, Some(Field::AtMost(number))) => {
-                    number <= LAST_PARTITION && !holds_partition(space, party, number)
-                }
-                _ => false,
-            })
     }
 
     /// The row of the oldest match in a sound space.
@@ -510,21 +498,4 @@ fn is_bound(word: u64) -> bool {
         Field::from_word(word),
         Some(Field::AtLeast(_) | Field::AtMost(_))
     )
-}
-
-fn holds_partition(space: &[u64], party: usize, partition: u32) -> bool {
-    has_partition(space[PARTITIONS + party], partition)
-}
-
-fn holds_key(space: &[u64], party: usize, key: i32) -> bool {
-    space[KEYS + party] & key_bit(key) != 0
-}
-
-/// Whether the party holds each partition and key carried in these fields.
-fn holds_names_in(space: &[u64], party: usize, fields: &[u64]) -> bool {
-    fields.iter().all(|word| match Field::from_word(*word) {
-        Some(Field::Partition(partition)) => holds_partition(space, party, partition),
-        Some(Field::Key(key)) => holds_key(space, party, key),
-        _ => true,
-    })
 }

@@ -9,6 +9,7 @@ pub mod answer;
 pub mod calls;
 pub mod console;
 pub mod console_variant;
+mod missing;
 pub mod names;
 pub mod roster;
 pub mod roster_variant;

@@ -172,6 +172,47 @@ pub enum Variant {
     WordAbove63InRowIsUnsound,
     /// Takes a row with a set without a partition below 32 for unsound.
     NoneBelow32InRowIsUnsound,
+    /// The table as it was before names were told apart, with one test by 7 for all of them: what
+    /// the comparison before and after goes by, and a blunder today.
+    OneRefusalForNames,
+    /// Refuses by 13 for every name that isn't held.
+    AllNamesBy13,
+    /// By 7 in a put, and tells names apart elsewhere.
+    NamesOfPutBy7,
+    /// By 7 in a look.
+    NamesOfLookBy7,
+    /// Refuses by 14 for a partition of a pair, and by 13 for a key.
+    Exchanges13And14,
+    /// By 7 for a key of a pair, and by 14 for a name in a field.
+    Exchanges14And7,
+    /// By 7 for a partition of a pair, and by 13 for a name in a field.
+    Exchanges13And7,
+    /// By 13 for a partition that a field carries.
+    CarriedPartitionBy13,
+    /// By 14 for a key that a field carries.
+    CarriedKeyBy14,
+    /// Tests the keys of the pairs before their partitions.
+    KeysBeforePartitions,
+    /// Tests the names in fields before the keys of the pairs.
+    CarriedBeforeKeys,
+    /// Tests the names in fields before those of the pairs.
+    CarriedFirst,
+    /// Tests a put's pair for reading, partitions and key, before its other pair.
+    NamesPairByPair,
+    /// Asks for the partitions of a put's set for reading to be held, and not for the other set's.
+    ReadSetAloneHeld,
+    /// The same of the set for taking.
+    TakeSetAloneHeld,
+    /// The same of the key for reading.
+    ReadKeyAloneHeld,
+    /// The same of the key for taking.
+    TakeKeyAloneHeld,
+    /// Lets a set of several partitions have one that isn't held.
+    OneOfSeveralIsForgiven,
+    /// Tests names before the result's length.
+    TestsNamesBeforeResult,
+    /// Tests the party's live entries before names.
+    TestsLimitBeforeNames,
     /// Leaves the last live row where it is, and as it was, when the rows close up.
     LeavesLastRow,
     /// Closes up to the start of the last live row and clears it, so that its entry is lost.
@@ -274,6 +315,30 @@ impl Variant {
         Variant::Partition63InRowIsUnsound,
         Variant::WordAbove63InRowIsUnsound,
         Variant::NoneBelow32InRowIsUnsound,
+    ];
+
+    /// Slips about which name isn't held.
+    pub const NAME_SLIPS: [Variant; 20] = [
+        Variant::OneRefusalForNames,
+        Variant::AllNamesBy13,
+        Variant::NamesOfPutBy7,
+        Variant::NamesOfLookBy7,
+        Variant::Exchanges13And14,
+        Variant::Exchanges14And7,
+        Variant::Exchanges13And7,
+        Variant::CarriedPartitionBy13,
+        Variant::CarriedKeyBy14,
+        Variant::KeysBeforePartitions,
+        Variant::CarriedBeforeKeys,
+        Variant::CarriedFirst,
+        Variant::NamesPairByPair,
+        Variant::ReadSetAloneHeld,
+        Variant::TakeSetAloneHeld,
+        Variant::ReadKeyAloneHeld,
+        Variant::TakeKeyAloneHeld,
+        Variant::OneOfSeveralIsForgiven,
+        Variant::TestsNamesBeforeResult,
+        Variant::TestsLimitBeforeNames,
     ];
 
     /// Slips about where rows start and end, in the first row, one in the middle and the last.

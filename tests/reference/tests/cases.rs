@@ -1,5 +1,5 @@
-//! The rules' twelve cases, looks, the small examples of their table of refusals, the bounds, and
-//! sets of partitions.
+//! The rules' twelve cases, looks, the small examples of their table of refusals, names that aren't
+//! held, the bounds, and sets of partitions.
 
 use reference::names::{key_bit, partition_bit, partitions_of, set_of, stored_key};
 use reference::table::{
@@ -18,6 +18,9 @@ const DEFAULT: Pair = Pair { set: 1, key: 0 };
 const HERE: Pair = Pair { set: 32, key: 4 };
 const THERE: Pair = Pair { set: 32, key: -4 };
 const LOW_KEY: Pair = Pair { set: 1, key: -32 };
+/// Party 0 of the cases holds neither partition 9 nor key -4.
+const ELSEWHERE: Pair = Pair { set: 512, key: -4 };
+const PARTITION_9: u64 = 4_294_967_305;
 
 /// The opening of the cases: party 0 holds 5 and 4, party 1 holds 5 and -4.
 fn opening() -> Vec<u64> {
@@ -76,7 +79,7 @@ fn cases_a_to_e() {
     let all = [WILDCARD, WILDCARD];
     assert_eq!(
         take(&mut space, 0, THERE, &all),
-        (Answer::Refused(7), [99; 8])
+        (Answer::Refused(14), [99; 8])
     );
     assert_eq!(take(&mut space, 1, THERE, &all), found);
     let none = (Answer::None, [99; 8]);
@@ -158,7 +161,9 @@ fn look_gives_no_name() {
     assert_eq!(space[PARTITIONS + 2], partition_bit(0));
     assert_eq!(space[KEYS + 2], key_bit(0));
     // What was only looked at can't be used: neither in a pair nor in a field.
-    assert_eq!(put(&mut space, 2, HERE, &[1]), Answer::Refused(7));
+    assert_eq!(put(&mut space, 2, HERE, &[1]), Answer::Refused(13));
+    let (with_key_4, _) = look(&mut space, 2, Pair { set: 1, key: 4 }, &[1]);
+    assert_eq!(with_key_4, Answer::Refused(14));
     assert_eq!(look(&mut space, 2, DEFAULT, &names).0, Answer::Refused(7));
     assert_eq!(receive(&mut space, 2, DEFAULT, &all).0, Answer::Found(2));
     assert_eq!(put(&mut space, 2, HERE, &[1]), Answer::Done);
@@ -196,13 +201,15 @@ fn look_and_receive_go_by_the_read_pair() {
 
 /// A refusal's number, a party, a pair, fields and how many result words are lent. The test of the
 /// next refusal would apply as well.
-const REFUSED: [(u32, u32, Pair, &[u64], usize); 6] = [
+const REFUSED: [(u32, u32, Pair, &[u64], usize); 8] = [
     (2, 8, LOW_KEY, &[], 0),
     (3, 0, LOW_KEY, &[], 0),
     (4, 0, LOW_KEY, &[KIND_6], 0),
-    (5, 0, THERE, &[KIND_6], 0),
-    (6, 0, THERE, &[1, 2], 1),
-    (7, 0, THERE, &[1, 2], 2),
+    (5, 0, ELSEWHERE, &[KIND_6], 0),
+    (6, 0, ELSEWHERE, &[PARTITION_9, 2], 1),
+    (13, 0, ELSEWHERE, &[PARTITION_9, 2], 2),
+    (14, 0, THERE, &[PARTITION_9, 2], 2),
+    (7, 0, HERE, &[PARTITION_9, 2], 2),
 ];
 
 #[test]
@@ -223,6 +230,93 @@ fn refusals_of_looks_receives_and_takes() {
                 assert_eq!(answer, Answer::Refused(due), "{operation:?}");
                 assert_eq!((space, result), (before, vec![99; lent]));
             }
+        }
+    }
+}
+
+/// Puts by party 0, which holds partition 5 and key 4: read pair, take pair, fields and the refusal.
+const LACKING: [(Pair, Pair, &[u64], u32); 14] = [
+    (SET_9, HERE, &[1], 13),
+    (HERE, SET_9, &[1], 13),
+    (THERE, HERE, &[1], 14),
+    (HERE, THERE, &[1], 14),
+    (HERE, HERE, &[1, PARTITION_9], 7),
+    (HERE, HERE, &[KEY_MINUS_4, 1], 7),
+    // Both at once, in one pair or in two.
+    (ELSEWHERE, HERE, &[1], 13),
+    (HERE, ELSEWHERE, &[1], 13),
+    (SET_9, THERE, &[1], 13),
+    (THERE, SET_9, &[1], 13),
+    (HERE, SET_9, &[KEY_MINUS_4], 13),
+    (HERE, THERE, &[PARTITION_9], 14),
+    (THERE, HERE, &[KEY_MINUS_4], 14),
+    (THERE, SET_9, &[PARTITION_9, KEY_MINUS_4], 13),
+];
+/// Of partitions 5 and 9.
+const SET_9: Pair = Pair { set: 544, key: 4 };
+const KEY_MINUS_4: u64 = 8_589_934_619;
+
+#[test]
+fn names_that_a_put_lacks() {
+    let mut full = opening();
+    for _ in 0..16 {
+        assert_eq!(put(&mut full, 0, HERE, &[1]), Answer::Done);
+    }
+    // With sixteen live entries refusal 8 would come after.
+    for space in [opening(), full] {
+        for (read, take, fields, number) in LACKING {
+            for (variant, due) in [(Variant::Correct, number), (Variant::OneRefusalForNames, 7)] {
+                let mut after = space.clone();
+                let answer = Reference::with(variant).put(&mut after, 0, read, take, fields);
+                assert_eq!(
+                    answer,
+                    Answer::Refused(due),
+                    "{read:?}, {take:?}, {fields:?}"
+                );
+                assert_eq!(after, space);
+            }
+        }
+    }
+}
+
+/// A slip about names, a put of party 0 (read pair, take pair and a field), its refusal, and what
+/// the slip answers.
+const SLIPS: [(Variant, Pair, Pair, u64, u32, Answer); 16] = {
+    use Answer::{Done, Refused};
+    use Variant::*;
+    [
+        (AllNamesBy13, THERE, HERE, 1, 14, Refused(13)),
+        (NamesOfPutBy7, THERE, HERE, 1, 14, Refused(7)),
+        (Exchanges13And14, SET_9, HERE, 1, 13, Refused(14)),
+        (Exchanges14And7, THERE, HERE, 1, 14, Refused(7)),
+        (Exchanges13And7, SET_9, HERE, 1, 13, Refused(7)),
+        (
+            CarriedPartitionBy13,
+            HERE,
+            HERE,
+            PARTITION_9,
+            7,
+            Refused(13),
+        ),
+        (CarriedKeyBy14, HERE, HERE, KEY_MINUS_4, 7, Refused(14)),
+        (KeysBeforePartitions, THERE, SET_9, 1, 13, Refused(14)),
+        (CarriedBeforeKeys, THERE, HERE, PARTITION_9, 14, Refused(7)),
+        (CarriedFirst, SET_9, HERE, PARTITION_9, 13, Refused(7)),
+        (NamesPairByPair, THERE, SET_9, 1, 13, Refused(14)),
+        (ReadSetAloneHeld, HERE, SET_9, 1, 13, Done),
+        (TakeSetAloneHeld, SET_9, HERE, 1, 13, Done),
+        (ReadKeyAloneHeld, HERE, THERE, 1, 14, Done),
+        (TakeKeyAloneHeld, THERE, HERE, 1, 14, Done),
+        (OneOfSeveralIsForgiven, SET_9, HERE, 1, 13, Done),
+    ]
+};
+
+#[test]
+fn what_the_slips_make_of_names() {
+    for (slip, read, take, field, number, wrong) in SLIPS {
+        for (variant, due) in [(Variant::Correct, Answer::Refused(number)), (slip, wrong)] {
+            let answer = Reference::with(variant).put(&mut opening(), 0, read, take, &[field]);
+            assert_eq!(answer, due, "{variant:?}");
         }
     }
 }
@@ -252,7 +346,10 @@ fn examples_of_the_refusals() {
         reference.find(Operation::Receive, &mut space, two_fields, &mut [99]),
         Answer::Refused(6)
     );
-    assert_eq!(receive(&mut space, 0, THERE, &[1]).0, Answer::Refused(7));
+    let elsewhere = receive(&mut space, 0, ELSEWHERE, &[1]).0;
+    assert_eq!(elsewhere, Answer::Refused(13));
+    assert_eq!(look(&mut space, 0, THERE, &[1]).0, Answer::Refused(14));
+    assert_eq!(put(&mut space, 0, HERE, &[PARTITION_9]), Answer::Refused(7));
     assert_eq!(reference.open(&mut space, &[0; 15]), Answer::Refused(9));
     let mut bit_63 = [0; 16];
     bit_63[15] = 1 << 63;
@@ -481,12 +578,12 @@ fn every_partition_of_a_set_is_held() {
         (2, 512, Answer::Done),
         (2, 544, Answer::Done),
         (2, 545, Answer::Done),
-        (2, 546, Answer::Refused(7)),
-        (2, u64::MAX, Answer::Refused(7)),
-        (2, 544 + (1 << 63), Answer::Refused(7)),
-        (3, 544, Answer::Refused(7)),
+        (2, 546, Answer::Refused(13)),
+        (2, u64::MAX, Answer::Refused(13)),
+        (2, 544 + (1 << 63), Answer::Refused(13)),
+        (3, 544, Answer::Refused(13)),
         (3, u64::MAX - 512, Answer::Done),
-        (3, u64::MAX, Answer::Refused(7)),
+        (3, u64::MAX, Answer::Refused(13)),
         (1, u64::MAX, Answer::Done),
     ] {
         let mut space = opening_for_sets();
@@ -555,7 +652,8 @@ fn single_partitions() {
     };
     assert_eq!(find(pair(5, -4)), Answer::Found(2));
     assert_eq!(find(pair(0, -4)), Answer::None);
-    assert_eq!(find(pair(9, -4)), Answer::Refused(7));
+    assert_eq!(find(pair(9, -4)), Answer::Refused(13));
+    assert_eq!(find(pair(5, 4)), Answer::Refused(14));
     assert_eq!(find(pair(64, -4)), Answer::Refused(4));
     assert_eq!(space[row_start(0) + READ_SET], 5);
 }

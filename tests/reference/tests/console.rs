@@ -82,29 +82,39 @@ fn readable_and_refused() {
         ),
         ("put 8 0 0 0 0 -", "no2"),
         ("put 4294967295 0 0 0 0 m0", "no2"),
-        ("put 0 0:5 0 0 0 m0", "no7"),
-        ("put 0 0 0 0:1:2:3:63 0 m0", "no7"),
+        ("put 0 0:5 0 0 0 m0", "no13"),
+        ("put 0 0 0 0:1:2:3:63 0 m0", "no13"),
         ("put 0 0:5 32 0 0 m0", "no4"),
         ("put 8 0:5 0 5:9 0 m0", "no2"),
         ("put 0 0 -2147483648 0 0 m0", "no4"),
         ("put 0 0 0 0 2147483647 m0", "no4"),
-        ("put 0 0 -31 0 0 m0", "no7"),
+        ("put 0 0 -31 0 0 m0", "no14"),
+        ("put 0 0 0 0 31 p63", "no14"),
+        ("put 0 0 -31 5 0 p63", "no13"),
+        ("put 0 5 0 0 31 p63", "no13"),
         ("look 0 0 0 - - *", "none"),
         ("look 0 0 32 - - *", "no4"),
         ("look 8 0 0 - - *", "no2"),
         ("look 0 0 0 - - -", "no3"),
         ("look 0 0 0 - - p64", "no5"),
-        ("look 0 5 0 - - *", "no7"),
+        ("look 0 5 0 - - *", "no13"),
+        ("look 0 5 4 - - p5,k4", "no13"),
+        ("look 0 0 4 - - p5,k4", "no14"),
+        ("look 0 0 0 - - p5,k4", "no7"),
         ("receive 0 0 0 - - *", "none"),
         ("receive 8 0 0 - - *", "no2"),
         ("receive 0 0 0 - - -", "no3"),
         ("receive 0 0 32 - - *", "no4"),
-        ("receive 0 0:63 0 - - *", "no7"),
+        ("receive 0 0:63 0 - - *", "no13"),
         ("take 8 30:31:32 0 - - *", "no2"),
         ("receive 0 0 0 - - p64", "no5"),
-        ("receive 0 5 0 - - *", "no7"),
+        ("receive 0 5 0 - - *", "no13"),
+        ("receive 0 0 5 - - *", "no14"),
+        ("receive 0 0 0 - - p5", "no7"),
         ("take 0 0 0 - - p0,k0,m4294967295", "none"),
         ("take 0 0 0 - - k-31", "no7"),
+        ("take 0 0 -31 - - *", "no14"),
+        ("take 0 1 -31 - - *", "no13"),
         ("look 0 0 0 - - g0,g4294967295", "none"),
         ("take 0 0 0 - - l0,l4294967295", "none"),
         ("receive 0 0 0 - - g0,g0,g0,g0,g0,l0,l0,l0,l0", "no3"),
@@ -240,10 +250,10 @@ look 3 0 0 - - *,*
     let output = "\
 1 done -
 2 found p5,k4
-3 no7 -
+3 no13 -
 4 found p5,k4
 5 done -
-6 no7 -
+6 no14 -
 7 found p5,k4
 8 done -
 9 none -
@@ -254,7 +264,7 @@ look 3 0 0 - - *,*
 /// Party 1 finds a partition in an entry, uses it, and takes the entry.
 #[test]
 fn what_is_found_by_each_word() {
-    let looks = "1 done -\n2 found p5\n3 no7 -\n4 found p5\n";
+    let looks = "1 done -\n2 found p5\n3 no13 -\n4 found p5\n";
     let receives = "1 done -\n2 found p5\n3 done -\n4 found p5\n";
     let takes = "1 done -\n2 found p5\n3 done -\n4 none -\n";
     let unreadable = "1 done -\nline 4 unreadable\n";
@@ -381,7 +391,7 @@ fn sets_of_many() {
     };
     for last in [1, 15, 16, 31, 32, 62, 63] {
         let line = format!("look 0 {} 0 - - m0\n", upto(last));
-        assert_eq!(after_names(&line), "1 no7 -\n");
+        assert_eq!(after_names(&line), "1 no13 -\n");
     }
     let line = format!("look 0 {} 0 - - m0\n", upto(64));
     assert_eq!(after_names(&line), "line 2 unreadable\n");
@@ -410,7 +420,7 @@ take 1 9 0 - - m1
 2 found m1
 3 found m1
 4 none -
-5 no7 -
+5 no13 -
 6 found m1
 7 none -
 8 found m1
@@ -444,10 +454,15 @@ fn what_the_slips_make_of_sets() {
         ),
         (ConsoleVariant::Reads64AsEmpty, "64", "", "no4"),
         (ConsoleVariant::ReadsAbsentAsEmpty, "-", "", "no4"),
-        (ConsoleVariant::ReadsFirstAlone, "5:10", "no7", "done"),
-        (ConsoleVariant::ReadsLastAlone, "4:5", "no7", "done"),
+        (ConsoleVariant::ReadsFirstAlone, "5:10", "no13", "done"),
+        (ConsoleVariant::ReadsLastAlone, "4:5", "no13", "done"),
         (ConsoleVariant::SeveralAreUnreadable, "5:9", "done", ""),
-        (ConsoleVariant::SeventeenAreUnreadable, seventeen, "no7", ""),
+        (
+            ConsoleVariant::SeventeenAreUnreadable,
+            seventeen,
+            "no13",
+            "",
+        ),
         (ConsoleVariant::Partition63IsUnreadable, "5:63", "done", ""),
     ] {
         let lines = format!("{NAMES}{gifts}put 0 {set} 0 0 0 m1\n");

@@ -193,7 +193,7 @@ fn wrong_in_table(text: &str, answer: u32) -> &str {
 }
 
 fn answer_line(text: &str, answer: u32) {
-    let refusals = (1..=12).map(Answer::Refused);
+    let refusals = (1..=14).map(Answer::Refused);
     let founds = (1..=MOST_FIELDS).map(Answer::Found);
     let known = [Answer::Done, Answer::None]
         .into_iter()
