@@ -136,6 +136,8 @@ static struct request to_take(struct pair pair, uint32_t what, uint64_t a, uint6
 #define ANY SPACE_WILDCARD
 enum { DONE = 0, NONE = 0, FOUND = FIELDS }; /* answers */
 static int surprises;                        /* answers that were not expected */
+/* A refusal for a name that isn't held says where it stands: 113 is for a partition of a pair, 114 for a key of a pair, 107 for a
+   name in a field. The first of the three that applies is the answer. */
 
 static void show_field(uint64_t word)
 {
@@ -166,8 +168,8 @@ static void a_trigger(void)
     /* a look finds the oldest match each time, so a picker names the trigger that it hasn't seen yet */
     step(&picker_a, "looks at trigger 1", to_look(co(triggers), TRIGGER, space_message(1), ANY), FOUND);
     step(&picker_b, "looks at trigger 1", to_look(co(triggers), TRIGGER, space_message(1), ANY), FOUND);
-    step(&picker_b, "tries to put a trigger", to_put(triggers, co(triggers), TRIGGER, space_message(2), space_message(9)), 107);
-    step(&picker_b, "tries to take trigger 1", to_take(triggers, TRIGGER, space_message(1), ANY), 107);
+    step(&picker_b, "tries to put a trigger", to_put(triggers, co(triggers), TRIGGER, space_message(2), space_message(9)), 114);
+    step(&picker_b, "tries to take trigger 1", to_take(triggers, TRIGGER, space_message(1), ANY), 114);
     step(&picker_b, "tries it with a key that it holds", to_take(co(triggers), TRIGGER, space_message(1), ANY), NONE);
     step(&digitiser, "takes trigger 1 down", to_take(triggers, TRIGGER, space_message(1), ANY), FOUND);
 }
@@ -204,8 +206,8 @@ static void picks(void)
     step(&picker_a, "picks sample 1340 of trigger 1", to_put(picks_of_a, from_a, PICK, space_message(1), space_message(1340)), DONE);
     step(&picker_b, "picks sample 1210 of trigger 1", to_put(picks_of_b, from_b, PICK, space_message(1), space_message(1210)), DONE);
     step(&picker_a, "looks at its group's oldest pick", to_look(co(picks_of_a), PICK, ANY, ANY), FOUND);
-    step(&picker_b, "tries to look at a pick of group A", to_look(co(picks_of_a), PICK, ANY, ANY), 107);
-    step(&picker_b, "tries to take a pick of group A", to_take(co(from_a), PICK, ANY, ANY), 107);
+    step(&picker_b, "tries to look at a pick of group A", to_look(co(picks_of_a), PICK, ANY, ANY), 113);
+    step(&picker_b, "tries to take a pick of group A", to_take(co(from_a), PICK, ANY, ANY), 113);
     step(&telemetry, "takes a pick of group A", to_take(co(from_a), PICK, ANY, ANY), FOUND);
     step(&telemetry, "takes a pick of group A", to_take(co(from_a), PICK, ANY, ANY), FOUND);
     step(&telemetry, "takes a pick of group A", to_take(co(from_a), PICK, ANY, ANY), NONE);
@@ -219,7 +221,7 @@ static void a_setting(void)
 {
     step(&telemetry, "sets the gain of channel 1 to 20", to_put(settings, co(settings), GAIN, space_message(1), space_message(20)), DONE);
     step(&picker_b, "looks at the gain", to_look(co(settings), GAIN, space_message(1), ANY), FOUND);
-    step(&picker_b, "tries to set it to 99", to_put(settings, co(settings), GAIN, space_message(1), space_message(99)), 107);
+    step(&picker_b, "tries to set it to 99", to_put(settings, co(settings), GAIN, space_message(1), space_message(99)), 114);
     step(&picker_b, "tries to take it away", to_take(co(settings), GAIN, space_message(1), ANY), NONE);
     step(&telemetry, "puts the new gain, 40", to_put(settings, co(settings), GAIN, space_message(1), space_message(40)), DONE);
     step(&digitiser, "looks at the gain", to_look(co(settings), GAIN, space_message(1), ANY), FOUND);
@@ -235,8 +237,8 @@ static void an_eruption(void)
     step(&picker_a, "alarms both groups: 1, level 3", to_put(alarms, alarms, ALARM, space_message(1), space_message(3)), DONE);
     step(&picker_a, "looks in both partitions", to_look(co(alarms), ALARM, ANY, ANY), FOUND);
     step(&picker_b, "looks in its own partition", to_look(co(alarms_of_b), ALARM, ANY, ANY), FOUND);
-    step(&picker_b, "tries to look in both", to_look(co(alarms), ALARM, ANY, ANY), 107);
-    step(&picker_b, "tries to alarm both groups", to_put(alarms, alarms, ALARM, space_message(2), space_message(9)), 107);
+    step(&picker_b, "tries to look in both", to_look(co(alarms), ALARM, ANY, ANY), 113);
+    step(&picker_b, "tries to alarm both groups", to_put(alarms, alarms, ALARM, space_message(2), space_message(9)), 113);
     step(&picker_b, "alarms its own group: 2, level 9", to_put(alarms_of_b, alarms_of_b, ALARM, space_message(2), space_message(9)), DONE);
     step(&picker_a, "looks for alarm 2 in its own partition", to_look(co(alarms_of_a), ALARM, space_message(2), ANY), NONE);
     step(&picker_a, "looks for alarm 2 in both", to_look(co(alarms), ALARM, space_message(2), ANY), FOUND);
@@ -254,19 +256,20 @@ static void an_eruption(void)
 static void names(void)
 {
     step(&picker_a, "notes that battery 3 has 12 volts", to_put(notes, co(notes), NOTE, space_message(3), space_message(12)), DONE);
-    step(&telemetry, "tries to look at the note", to_look(co(notes), NOTE, ANY, ANY), 107);
+    step(&telemetry, "tries to look at the note", to_look(co(notes), NOTE, ANY, ANY), 113);
     step(&picker_a, "hands over the names", to_put(from_a, from_a, NAMES, space_partition(12), space_key(-notes.key)), DONE);
-    step(&picker_b, "tries to take them", to_take(co(from_a), NAMES, ANY, ANY), 107);
+    step(&picker_b, "tries to take them", to_take(co(from_a), NAMES, ANY, ANY), 113);
     struct request seen = step(&telemetry, "looks at them", to_look(co(from_a), NAMES, ANY, ANY), FOUND);
     /* two numbers would give it no names, so it looks at the kinds */
     surprises += space_kind(seen.found[1]) != SPACE_KIND_PARTITION || space_kind(seen.found[2]) != SPACE_KIND_KEY;
     struct pair given = under((uint32_t)space_value(seen.found[1]), (int32_t)space_value(seen.found[2]));
-    step(&telemetry, "tries to look at the note", to_look(given, NOTE, ANY, ANY), 107);
+    step(&telemetry, "tries to look at the note", to_look(given, NOTE, ANY, ANY), 113);
+    step(&telemetry, "tries to hand them on", to_put(co(from_a), co(from_a), NAMES, seen.found[1], seen.found[2]), 107);
     step(&telemetry, "receives them", to_receive(co(from_a), NAMES, ANY, ANY), FOUND);
     step(&telemetry, "looks at the note", to_look(given, NOTE, ANY, ANY), FOUND);
     /* until they are taken, they count among the 16 entries of picker A */
     step(&telemetry, "takes them down", to_take(co(from_a), NAMES, ANY, ANY), FOUND);
-    step(&telemetry, "tries to put a note", to_put(notes, co(notes), NOTE, space_message(3), space_message(0)), 107);
+    step(&telemetry, "tries to put a note", to_put(notes, co(notes), NOTE, space_message(3), space_message(0)), 114);
 }
 
 /* A program can have 16 live entries. Then it's refused until one of them is taken; of picks that is the telemetry's task. (A picker
