@@ -11,6 +11,7 @@ use crate::report::Report;
 use crate::rng::Rng;
 use crate::space::Space;
 use crate::tables::{damage_at_random, damaged_table, sound_table, Damage};
+use crate::tally::{codes, possible};
 use reference::names::{key_bit, partition_bit};
 use reference::table::{KEYS, PARTITIONS};
 use reference::{Field, Operation, Reference, Variant};
@@ -126,10 +127,8 @@ impl Counts {
 
     /// Every answer that the rules make possible must have come.
     fn finish(&self) -> Result<String, String> {
-        let missing: Vec<String> = (0..=8)
-            .chain(101..=107)
-            .chain([113, 114])
-            .filter(|code| !self.answers.contains_key(code))
+        let missing: Vec<String> = codes()
+            .filter(|code| possible(Kind::LOOK, *code) && !self.answers.contains_key(code))
             .map(|code| answer_text(Kind::LOOK, code))
             .collect();
         let text = format!(
