@@ -11,7 +11,7 @@ use crate::report::Report;
 use crate::rng::Rng;
 use crate::space::Space;
 use crate::tables::{damage_at_random, damaged_table, sound_table, Damage};
-use crate::tally::{codes, possible};
+use crate::tally::answers_of;
 use reference::names::{key_bit, partition_bit};
 use reference::table::{KEYS, PARTITIONS};
 use reference::{Field, Operation, Reference, Variant};
@@ -127,9 +127,9 @@ impl Counts {
 
     /// Every answer that the rules make possible must have come.
     fn finish(&self) -> Result<String, String> {
-        let missing: Vec<String> = codes()
-            .filter(|code| possible(Kind::LOOK, *code) && !self.answers.contains_key(code))
-            .map(|code| answer_text(Kind::LOOK, code))
+        let missing: Vec<String> = answers_of(Kind::LOOK)
+            .filter(|(_, code)| !self.answers.contains_key(code))
+            .map(|(kind, code)| answer_text(kind, code))
             .collect();
         let text = format!(
             "{} found, {} with names not held, {} none, {} refused",

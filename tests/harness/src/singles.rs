@@ -6,6 +6,7 @@ use crate::pool::{Maker, Mix, Pool, ALL_PARTIES};
 use crate::report::Report;
 use crate::rng::Rng;
 use crate::space::Space;
+use crate::tally::answers_of;
 use reference::names::{partition_bit, partitions_of, LAST_PARTITION};
 use reference::table::{row_start, LIVE, READ_SET, TAKE_SET, WORDS};
 use reference::{Pair, Reference, Variant};
@@ -79,15 +80,9 @@ impl Counts {
 
     /// No refusal by 1 can come, since the space stays sound.
     fn finish(&self) -> Result<String, String> {
-        let of_finds = (0..=8).chain(102..=107).chain([113, 114]);
-        let of_puts = [0, 102, 103, 104, 105, 113, 114, 107, 108];
-        let finds = [Kind::LOOK, Kind::RECEIVE, Kind::TAKE];
-        let wanted = finds
-            .into_iter()
-            .flat_map(|kind| of_finds.clone().map(move |code| (kind, code)))
-            .chain(of_puts.map(|code| (Kind::Put, code)));
+        let wanted = Kind::ALL[1..].iter().copied().flat_map(answers_of);
         let missing: Vec<String> = wanted
-            .filter(|wanted| !self.answers.contains_key(wanted))
+            .filter(|(kind, code)| *code != 101 && !self.answers.contains_key(&(*kind, *code)))
             .map(|(kind, code)| format!("{}: {}", kind.word(), answer_text(kind, code)))
             .collect();
         let partitions = self.partitions.len();

@@ -14,7 +14,7 @@ pub struct Tally {
 }
 
 /// Whether the rules make an answer of this kind of call possible.
-pub fn possible(kind: Kind, code: u32) -> bool {
+fn possible(kind: Kind, code: u32) -> bool {
     match kind {
         Kind::Open => matches!(code, 0 | 101 | 109),
         Kind::Put => matches!(code, 0 | 101..=105 | 113 | 114 | 107 | 108),
@@ -23,8 +23,14 @@ pub fn possible(kind: Kind, code: u32) -> bool {
 }
 
 /// All answers, refusals in the order of their table.
-pub fn codes() -> impl Iterator<Item = u32> {
+fn codes() -> impl Iterator<Item = u32> {
     (0..=8).chain(101..=106).chain([113, 114]).chain(107..=109)
+}
+
+/// The answers that the rules make possible of this kind of call.
+pub fn answers_of(kind: Kind) -> impl Iterator<Item = (Kind, u32)> {
+    let codes = codes().filter(move |code| possible(kind, *code));
+    codes.map(move |code| (kind, code))
 }
 
 impl Tally {

@@ -8,7 +8,7 @@ use crate::pool::{broken_roster, Maker, Mix, Pool, ALL_PARTIES};
 use crate::report::Report;
 use crate::rng::Rng;
 use crate::space::Space;
-use crate::tally::{codes, possible};
+use crate::tally::answers_of;
 use reference::{Reference, Variant};
 use std::collections::BTreeMap;
 
@@ -36,10 +36,7 @@ impl Counts {
 
     /// Every answer that the rules make possible must have come.
     fn finish(&self) -> Result<String, String> {
-        let wanted = Kind::ALL.into_iter().flat_map(|kind| {
-            let codes = codes().filter(move |code| possible(kind, *code));
-            codes.map(move |code| (kind, code))
-        });
+        let wanted = Kind::ALL.into_iter().flat_map(answers_of);
         let missing: Vec<String> = wanted
             .filter(|answer| !self.0.contains_key(answer))
             .map(|(kind, code)| format!("{}: {}", kind.word(), answer_text(kind, code)))
