@@ -15,9 +15,9 @@ use Rattle.rules.specs.State.{State, holds, live, limitOf}
 use Rattle.rules.specs.Calls.{Call, put, seek, Answer, refused, Table, firstThatApplies, partitionsIn, keysIn, heldTests, nameTests, putTable, seekTable, table}
 use Rattle.rules.specs.Words.{decode, sound, asked, Exit}
 use Rattle.rules.specs.Group.{unrefused}
-use Rattle.rules.specs.Claims.{tableBefore, missing, ToldApart, MissingNameToldApart}
+use Rattle.rules.specs.Claims.{usedNames, tableBefore, missing, ToldApart, MissingNameToldApart}
 use Rattle.rules.proofs.ListLaws.{clash}
-use Rattle.rules.proofs.NameTests.{apart-one, apart-two}
+use Rattle.rules.proofs.NameTests.{apart}
 use Rattle.rules.proofs.StateRuns.{serve-unrefused}
 use Rattle.rules.proofs.Decided.{callBy, by-table, call-by}
 
@@ -42,10 +42,10 @@ beside true n unnamed ts us t = record { told = inr (refl, unnamed) }
 beside false n unnamed ts us t = record { told = t .told }
 
 -- the three tests, and the one, before tests that are not of names
-three : (s : State) (who : ℕ) (ps : List (Pair ℕ)) (fs : List ℕ) (one : Bool)
-    → one ≡ (all (holds s who) (partitionsIn sets ps) && (all (holds s who) (keysIn ps) && all (holds s who) (namesIn fs)))
-    → (ts : Table) → ¬ (OfNames (firstThatApplies ts)) → Told (nameTests sets s who ps fs ++ ts) ((not one, 7) ∷ ts)
-three s who ps fs one e ts unnamed = rw e (go (all (holds s who) (partitionsIn sets ps)) (all (holds s who) (keysIn ps)) (all (holds s who) (namesIn fs)))
+three : (s : State) (who : ℕ) (ps : List (Pair ℕ)) (fs : List ℕ) (ts : Table) → ¬ (OfNames (firstThatApplies ts))
+    → Told (nameTests sets s who ps fs ++ ts) ((not (all (holds s who) (usedNames ps fs)), 7) ∷ ts)
+three s who ps fs ts unnamed =
+    rw (apart (holds s who) ps fs) (go (all (holds s who) (partitionsIn sets ps)) (all (holds s who) (keysIn ps)) (all (holds s who) (namesIn fs)))
   where
     go : (a k f : Bool) → Told (heldTests a k f ++ ts) ((not (a && (k && f)), 7) ∷ ts)
     go false k f = record { told = inl (inl refl, refl) }
@@ -68,10 +68,9 @@ four a b c d ts us t =
 table-told : (s : State) (c : Call ℕ) → Told (table sets s c) (tableBefore s c)
 unfolding putTable seekTable
 table-told s (put who r t fs) =
-    four _ _ _ _ _ _ (three s who (storedPair r ∷ storedPair t ∷ []) fs _ (apart-two (holds s who) (namesIn fs) (storedPair r) (storedPair t)) _ (full (leb (limitOf s who) (live who (s .entries)))))
+    four _ _ _ _ _ _ (three s who (storedPair r ∷ storedPair t ∷ []) fs _ (full (leb (limitOf s who) (live who (s .entries)))))
 table-told s (seek op who p t room) =
-    four _ _ _ _ _ _
-    (beside _ 6 (other 6 (omega arith) (λ e. omega arith)) _ _ (three s who (storedPair p ∷ []) t _ (apart-one (holds s who) (namesIn t) (storedPair p)) [] (λ n. n)))
+    four _ _ _ _ _ _ (beside _ 6 (other 6 (omega arith) (λ e. omega arith)) _ _ (three s who (storedPair p ∷ []) t [] (λ n. n)))
 
 -- ---- a call
 

@@ -277,13 +277,17 @@ OnePartitionEach =
 
 -- ---- which name is missing
 
--- C6: the names that a call uses: those of its pairs, and those in its fields
+-- C6: the names that a call uses, by its pairs and fields: those of each pair, and those that the fields carry
 abbrev pub pairNames : Pair ℕ → List Name
 pairNames p = sets .names (p .partitions) ++ (key (p .key) ∷ [])
 
+abbrev pub usedNames : List (Pair ℕ) → List ℕ → List Name
+usedNames [] fs = namesIn fs
+usedNames (p ∷ ps) fs = pairNames p ++ usedNames ps fs
+
 abbrev pub callNames : Call ℕ → List Name
-callNames (put who r t fs) = pairNames (storedPair r) ++ (pairNames (storedPair t) ++ namesIn fs)
-callNames (seek op who p t room) = pairNames (storedPair p) ++ namesIn t
+callNames (put who r t fs) = usedNames (storedPair r ∷ storedPair t ∷ []) fs
+callNames (seek op who p t room) = usedNames (storedPair p ∷ []) t
 
 -- R7 as it was before R13 and R14: one test of all the names that a call uses
 abbrev pub oneTest : State → Call ℕ → Table
