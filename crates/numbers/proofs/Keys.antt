@@ -3,17 +3,17 @@ use Prim.Native.Nat.{ℕ, zero, suc, _-_, _*_, _/_, _^_, _≤_, _<_}
 use mathlib.Core.Path.{_≡_, refl, ap}
 use mathlib.Core.Logic.{_⊎_, inl, inr}
 use mathlib.Core.Bool.{true, false}
-use mathlib.Core.List.{_∷_}
+use mathlib.Core.List.{[], _∷_}
 use native.Mathlib.Nat.{pow-succ'}
 use native.Mathlib.Omega.{arith}
 use borrow.Author.Tests.{le-leb, lt-ltb, le-ltb, ltb-true, ltb-false}
 use lib.Dec.{ltb}
 use lib.IntN.{ℤ, pos, negsuc}
-use lib.ListN.{length}
+use lib.ListN.{length, length-append}
 use Rattle.rules.specs.Names.{keyInRange, stored}
 use Rattle.rules.proofs.ListLaws.{bool}
 use Rattle.rules.proofs.KeyLaws.{neg-le, pos-le}
-use Rattle.numbers.specs.Numbers.{decimal, decimalKey, keyOf}
+use Rattle.numbers.specs.Numbers.{decimal, decimalKey, keyOf, refusalText}
 use Rattle.numbers.specs.Answers.{fits}
 use Rattle.numbers.proofs.Decimal.{decimal-small, more-length}
 
@@ -56,3 +56,11 @@ key-short s h = go (bool (ltb s 31))
     go : (ltb s 31 ≡ true) ⊎ (ltb s 31 ≡ false) → length (decimalKey (keyOf s)) ≤ 3
     go (inl e) = let l = decimal-short 1 (31 - s) (omega arith) in rw (key-down s (ltb-true s 31 e)) (omega arith)
     go (inr e) = let l = decimal-short 1 (s - 31) (omega arith) in rw (key-up s (ltb-false s 31 e)) (omega arith)
+
+-- `no`, at most two digits and a line feed
+pub refusal-short : (n : ℕ) → n ≤ 99 → length (refusalText n) ≤ 5
+unfolding refusalText
+refusal-short n h =
+    let d = decimal-short 1 n (omega arith) in
+    let e = length-append (decimal n) (10 ∷ []) in
+    omega arith

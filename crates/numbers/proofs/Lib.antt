@@ -7,3 +7,4 @@ pub mod Placed
 pub mod Decimal
 pub mod Keys
 pub mod NumbersBack
+pub mod Lines

@@ -1,14 +1,21 @@
 -- The readers' answers, as what the definitions give.
+use mathlib.Core.Path.{_≡_}
 use mathlib.Core.Bool.{Bool, _&&_, cond}
+use mathlib.Core.List.{List}
 use mathlib.Core.Option.{Option, none, some}
 use Prim.Native.Nat.{ℕ, zero, suc, _+_, _-_, _*_, _≤_}
 use lib.Dec.{leb}
 use lib.IntN.{ℤ, pos, negsuc}
+use lib.ListN.{length, drop}
 use lib.Signed.{leZ}
+use Rattle.numbers.specs.Parts.{parts}
+use Rattle.numbers.specs.Lines.{begunWith}
 use Rattle.numbers.specs.declared.Natural.{Natural}
 use Rattle.numbers.specs.declared.Natural.the-variants as natural
 use Rattle.numbers.specs.declared.Whole.{Whole}
 use Rattle.numbers.specs.declared.Whole.the-variants as whole
+use Rattle.numbers.specs.declared.Beginning.{Beginning}
+use Rattle.numbers.specs.declared.Beginning.the-variants as beginning
 
 -- T2: the value with one digit more; past the most it stays as it is
 abbrev pub withDigit : ℕ → ℕ → ℕ → ℕ
@@ -45,3 +52,14 @@ negativeIn natural.Unreadable = whole.Unreadable
 negativeIn natural.Large = whole.Large
 negativeIn (natural.Value zero) = whole.Unreadable
 negativeIn (natural.Value (suc v)) = whole.Value (negsuc v)
+
+-- D1, O6: from k on stand the lines after the names line, and the text is no longer than it may be
+pub record BeginsAt (most : ℕ) (names text : List ℕ) (k : ℕ) : Type 0 where
+  pub lines : begunWith most names text ≡ some (parts 10 (drop k text))
+  pub within : k ≤ length text
+  pub short : length text ≤ most
+
+-- D1, O6, R10
+abbrev pub BeginsAs : ℕ → List ℕ → List ℕ → Beginning → Type 0
+BeginsAs most names text (beginning.At k) = BeginsAt most names text k
+BeginsAs most names text beginning.Bad = begunWith most names text ≡ none

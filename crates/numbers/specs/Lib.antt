@@ -1,4 +1,5 @@
 pub mod Numbers
 pub mod Parts
+pub mod Lines
 pub mod Written
 pub mod Answers

@@ -62,3 +62,7 @@ decimalKey (negsuc v) = 45 ∷ decimal (suc v)
 -- N5: the key that is stored as s
 abbrev pub keyOf : ℕ → ℤ
 keyOf s = pos s -ℤ pos 31
+
+-- D7, O8: `no` and a refusal's number, with a line feed
+unfoldable pub refusalText : ℕ → List ℕ
+refusalText n = 110 ∷ 111 ∷ (decimal n ++ (10 ∷ []))

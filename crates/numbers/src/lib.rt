@@ -1,13 +1,13 @@
-// Text as bytes: its parts, texts compared, and decimal numbers of any length, read and rendered.
+// Text as bytes: its parts, its start, texts compared, decimal numbers of any length, read and rendered, and refusals.
 ghost use mathlib.Core.Path.{_≡_};
 ghost use mathlib.Core.Bool.{true};
 ghost use Prim.Native.Nat.{_+_, _*_, _≤_};
 ghost use lib.ListN.{length, drop};
 ghost use Rattle.numbers.specs.Numbers as numbers;
-ghost use Rattle.numbers.specs.Numbers.{isDigit, startsWell, decimal, decimalKey, keyOf};
+ghost use Rattle.numbers.specs.Numbers.{isDigit, startsWell, decimal, decimalKey, keyOf, refusalText};
 ghost use Rattle.numbers.specs.Parts.{before, same};
 ghost use Rattle.numbers.specs.Written.{Written};
-ghost use Rattle.numbers.specs.Answers.{naturalOf, wholeOf, UpTo, positiveIn, negativeIn, withDigit};
+ghost use Rattle.numbers.specs.Answers.{naturalOf, wholeOf, UpTo, positiveIn, negativeIn, withDigit, BeginsAs};
 
 // What a text reads as, as a natural number of any length. A large one is above what the caller asked for.
 pub enum Natural {
@@ -21,6 +21,12 @@ pub enum Whole {
     Value(i32),
     Large,
     Unreadable,
+}
+
+// Where the lines after the names line begin.
+pub enum Beginning {
+    At(usize),
+    Bad,
 }
 
 // T1
@@ -150,6 +156,23 @@ pub fn same(a: &[u8], b: &[u8]) -> bool
     true
 }
 
+// D1, O6, R10: a text of at most `most` bytes, whose first line is the names line.
+pub fn lines_start(text: &[u8], most: usize, names: &[u8]) -> Beginning
+    ensures { λ r. ⌜ BeginsAs most (now (names .entry)) (now (text .entry)) r ⌝ }
+{
+    if most < text.len() {
+        return Beginning::Bad;
+    }
+    let end = part_end(text, 0, 10);
+    if end == text.len() {
+        return Beginning::Bad;
+    }
+    if !same(&text[..end], names) {
+        return Beginning::Bad;
+    }
+    Beginning::At(end + 1)
+}
+
 // The bytes, written there.
 pub fn place(bytes: &[u8], out: &mut [u8], at: usize) -> usize
     requires { ⌜ at + length (now bytes) ≤ length (now out) ⌝ }
@@ -187,4 +210,14 @@ pub fn render_key(s: u64, out: &mut [u8], at: usize) -> usize
     }
     out[at] = 45;
     render_decimal(31 - s, out, at + 1)
+}
+
+// D7, O8
+pub fn render_refusal(n: u32, out: &mut [u8]) -> usize
+    requires { ⌜ length (refusalText n) ≤ length (now out) ⌝ }
+    ensures { λ r. ⌜ Written (now (out .entry)) 0 (refusalText n) (now (out .exit)) r ⌝ }
+{
+    let a = place(b"no", out, 0);
+    let b = render_decimal(n as u64, out, a);
+    place(b"\n", out, b)
 }

@@ -1,27 +1,27 @@
 -- When a line and a file are refused: a line by what it is, a file by its start or else by its first faulty line.
-use Prim.Native.Nat.{ℕ, _≤_, _<_}
+use Prim.Native.Nat.{ℕ, _≤_}
 use mathlib.Core.Path.{_≡_, refl, sym, ap, _∙_}
 use mathlib.Core.Logic.{_⊎_, inl, inr, _≢_}
-use mathlib.Core.Bool.{Bool, true, false, _&&_, cond}
+use mathlib.Core.Bool.{true, false, _&&_}
 use mathlib.Core.List.{List, [], _∷_, _++_}
 use mathlib.Core.Option.{Option, none, some}
 use native.Mathlib.Omega.{arith}
-use borrow.Author.Tests.{eqb-true, ltb-true, ltb-false, le-ltb}
-use lib.Dec.{eqb, leb, ltb}
+use lib.Dec.{leb}
 use lib.IntN.{ℤ}
-use lib.ListN.{length}
 use Rattle.rules.specs.Lists.{All}
 use Rattle.rules.specs.Words.{zeros}
 use Rattle.rules.specs.Claims.{Iff}
 use Rattle.rules.proofs.ListLaws.{bool}
 use Rattle.numbers.specs.Numbers.{natural, whole}
-use Rattle.numbers.specs.Parts.{before, beyond, parts, same}
-use Rattle.numbers.proofs.Equal.{same-equal, equal-same}
+use Rattle.numbers.specs.Parts.{parts}
+use Rattle.numbers.specs.Lines.{begunWith, BadStart, Begun}
+use Rattle.numbers.proofs.NumbersBack.{free}
+use Rattle.numbers.proofs.Lines.{begun-lines, bad-start}
 use Rattle.roster_file.specs.Rights.{Kind, kindOf, inRange, Said, gives, faulty, judged, said, saidBy, readLine, withRight}
 use Rattle.roster_file.specs.File.{refused, follow, readLines, namesLine, fromStart, readFile}
 use Rattle.roster_file.specs.Claims.{Readable, OutOfRange, LineFaults}
-use Rattle.roster_file.specs.Claims.{BadStart, FaultyBy, GivesRight, FirstFault, Begun, FirstFaultDecides}
-use Rattle.roster_file.proofs.Files.{long-refused}
+use Rattle.roster_file.specs.Claims.{FaultyBy, GivesRight, FirstFault, FirstFaultDecides}
+use Rattle.roster_file.proofs.Files.{start-read, start-refused}
 
 -- ---- a line
 
@@ -165,48 +165,13 @@ faulty-refused n line after f (l ∷ ls) g roster =
 -- ---- the start of a file
 
 -- no line feed stands in the names line
-names-then : (rest : List ℕ) → parts 10 (namesLine ++ (10 ∷ rest)) ≡ namesLine ∷ parts 10 rest
+unbroken : free 10 namesLine ≡ true
 unfolding namesLine
-names-then rest = refl
-
--- where parts lie beyond the first, a separator ends it
-ended : (sep : ℕ) (t m : List ℕ) (ms : List (List ℕ)) → beyond sep t ≡ m ∷ ms → (rest : List ℕ) × (t ≡ before sep t ++ (sep ∷ rest))
-ended sep [] m ms e = let z : _≡_ {A = ℕ} 0 1 = cc in absurd (omega arith)
-ended sep (b ∷ bs) m ms e = go (bool (eqb b sep)) (ended sep bs m ms)
-  where
-    go : (eqb b sep ≡ true) ⊎ (eqb b sep ≡ false) → (beyond sep bs ≡ m ∷ ms → (rest : List ℕ) × (bs ≡ before sep bs ++ (sep ∷ rest)))
-        → (rest : List ℕ) × (b ∷ bs ≡ before sep (b ∷ bs) ++ (sep ∷ rest))
-    go (inl h) r = (bs, rw h (ap (λ x. x ∷ bs) (eqb-true b sep h)))
-    go (inr h) r = let q = r (rw h at e) in (q .0, rw h (ap (λ t. b ∷ t) (q .1)))
+unbroken = refl
 
 -- past a good start the lines decide
-begun-reads : (file rest : List ℕ) → Begun file rest → readFile file ≡ readLines (zeros 16) (parts 10 rest)
-unfolding readFile
-begun-reads file rest h =
-    let l = h .short in
-    let short : ltb 16384 (length file) ≡ false = le-ltb 16384 (length file) (omega arith) in
-    rw short (rw (h .begins) (rw (names-then rest) (rw (equal-same namesLine) refl)))
-
-not-begun : (file : List ℕ) → ((rest : List ℕ) → file ≢ namesLine ++ (10 ∷ rest)) → readFile file ≡ refused 10
-unfolding readFile
-not-begun file h = rw (go (beyond 10 file) refl) (either (ltb 16384 (length file)))
-  where
-    either : (b : Bool) → cond b (refused 10) (refused 10) ≡ refused 10
-    either true = refl
-    either false = refl
-
-    differs : (m : List ℕ) (ms : List (List ℕ)) → beyond 10 file ≡ m ∷ ms → same (before 10 file) namesLine ≡ false
-    differs m ms e = test (bool (same (before 10 file) namesLine))
-      where
-        test : (same (before 10 file) namesLine ≡ true) ⊎ (same (before 10 file) namesLine ≡ false) → same (before 10 file) namesLine ≡ false
-        test (inl t) =
-            let q = ended 10 file m ms e in
-            absurd (h (q .0) (q .1 ∙ ap (λ (l : List ℕ). l ++ (10 ∷ (q .0))) (same-equal (before 10 file) namesLine t)))
-        test (inr t) = t
-
-    go : (ps : List (List ℕ)) → beyond 10 file ≡ ps → fromStart (before 10 file ∷ ps) ≡ refused 10
-    go [] e = refl
-    go (m ∷ ms) e = rw (differs m ms e) refl
+pub begun-reads : (file rest : List ℕ) → Begun 16384 namesLine file rest → readFile file ≡ readLines (zeros 16) (parts 10 rest)
+begun-reads file rest h = start-read file (parts 10 rest) (begun-lines 16384 namesLine file unbroken rest h)
 
 -- no line is faulty by 10, nor is what no line feed ends
 never-ten : (line : List ℕ) (after : List (List ℕ)) → ¬ FaultyBy 10 line after
@@ -217,7 +182,7 @@ never-ten line (m ∷ ms) f = go (faulty-only line 10 f)
     go (inl e) = omega arith
     go (inr e) = omega arith
 
-begun-refused : (file rest : List ℕ) → Begun file rest → (n : ℕ) → Iff (readFile file ≡ refused n) (FirstFault n rest)
+begun-refused : (file rest : List ℕ) → Begun 16384 namesLine file rest → (n : ℕ) → Iff (readFile file ≡ refused n) (FirstFault n rest)
 begun-refused file rest h n = (there, back)
   where
     there : readFile file ≡ refused n → FirstFault n rest
@@ -229,24 +194,20 @@ begun-refused file rest h n = (there, back)
     back f = begun-reads file rest h ∙ rw (f .lines) (faulty-refused n (f .line) (f .after) (f .fault) (f .before) (f .good) (zeros 16))
 
 pub first-fault-decides : FirstFaultDecides
-first-fault-decides file = record { ten = (bad-start, by-ten); lines = begun-refused file }
+unfolding readFile
+first-fault-decides file = record { ten = (bad, by-ten); lines = begun-refused file }
   where
-    bad-start : readFile file ≡ refused 10 → BadStart file
-    bad-start e = go (bool (ltb 16384 (length file)))
+    bad : readFile file ≡ refused 10 → BadStart 16384 namesLine file
+    bad e = go (begunWith 16384 namesLine file) refl e
       where
-        no-names : length file < 16385 → (rest : List ℕ) → file ≢ namesLine ++ (10 ∷ rest)
-        no-names l rest q =
-            let b : Begun file rest = record { short = l; begins = q } in
-            let f : FirstFault 10 rest = begun-refused file rest b 10 .0 e in
-            never-ten (f .line) (f .after) (f .fault)
+        go : (o : Option (List (List ℕ))) → begunWith 16384 namesLine file ≡ o → fromStart o ≡ refused 10 → BadStart 16384 namesLine file
+        go none b q = bad-start 16384 namesLine file unbroken .0 b
+        go (some lines) b q =
+            let f : FaultIn 10 lines = refused-faulty lines (zeros 16) 10 q in
+            absurd (never-ten (f .line) (f .after) (f .fault))
 
-        go : (ltb 16384 (length file) ≡ true) ⊎ (ltb 16384 (length file) ≡ false) → BadStart file
-        go (inl t) = inl (ltb-true 16384 (length file) t)
-        go (inr t) = let l = ltb-false 16384 (length file) t in inr (no-names (omega arith))
-
-    by-ten : BadStart file → readFile file ≡ refused 10
-    by-ten (inl l) = long-refused file l
-    by-ten (inr h) = not-begun file h
+    by-ten : BadStart 16384 namesLine file → readFile file ≡ refused 10
+    by-ten h = start-refused file (bad-start 16384 namesLine file unbroken .1 h)
 
 -- ---- no refusal has a larger number
 
@@ -258,19 +219,10 @@ fault-small n line (m ∷ ms) f = go (faulty-only line n f)
     go (inl e) = omega arith
     go (inr e) = omega arith
 
-start-small : (ls : List (List ℕ)) (n : ℕ) → fromStart ls ≡ refused n → n ≤ 12
-start-small [] n e = let q = refused-is 10 n e in omega arith
-start-small (l ∷ []) n e = let q = refused-is 10 n e in omega arith
-start-small (l ∷ m ∷ ls) n e = go (bool (same l namesLine))
-  where
-    go : (same l namesLine ≡ true) ⊎ (same l namesLine ≡ false) → n ≤ 12
-    go (inl t) = let f = refused-faulty (m ∷ ls) (zeros 16) n (rw t at e) in fault-small n (f .line) (f .after) (f .fault)
-    go (inr t) = let q = refused-is 10 n (rw t at e) in omega arith
-
 pub refusal-small : (file : List ℕ) (n : ℕ) → readFile file ≡ refused n → n ≤ 12
 unfolding readFile
-refusal-small file n e = go (bool (ltb 16384 (length file)))
+refusal-small file n e = go (begunWith 16384 namesLine file) e
   where
-    go : (ltb 16384 (length file) ≡ true) ⊎ (ltb 16384 (length file) ≡ false) → n ≤ 12
-    go (inl t) = let q = refused-is 10 n (rw t at e) in omega arith
-    go (inr t) = start-small (parts 10 file) n (rw t at e)
+    go : (o : Option (List (List ℕ))) → fromStart o ≡ refused n → n ≤ 12
+    go none q = let t = refused-is 10 n q in omega arith
+    go (some lines) q = let f = refused-faulty lines (zeros 16) n q in fault-small n (f .line) (f .after) (f .fault)

@@ -4,20 +4,21 @@ use mathlib.Core.Path.{_≡_, refl, sym, ap, ap₂, _∙_, subst}
 use mathlib.Core.Logic.{_⊎_, inl, inr}
 use mathlib.Core.Bool.{true, false}
 use mathlib.Core.List.{List, [], _∷_}
+use mathlib.Core.Option.{Option, none, some}
 use native.Mathlib.Nat.{zero-div}
 use native.Mathlib.Omega.{arith}
-use lib.Dec.{ltb}
-use lib.ListN.{length, getD, getD-replicate}
+use lib.ListN.{getD, getD-replicate}
 use lib.Pow.{pow-pos}
 use Rattle.rules.specs.Lists.{All, In}
 use Rattle.rules.specs.Names.{Name, partition, key, heldIn}
 use Rattle.rules.specs.Words.{zeros}
 use Rattle.rules.specs.Claims.{Iff}
 use Rattle.rules.proofs.Demand1.{opening-is-sound}
-use Rattle.rules.proofs.ListLaws.{bool, clash}
+use Rattle.rules.proofs.ListLaws.{clash}
 use Rattle.numbers.specs.Numbers.{natural}
-use Rattle.numbers.specs.Parts.{parts, same}
-use Rattle.numbers.proofs.Equal.{same-equal}
+use Rattle.numbers.specs.Parts.{parts}
+use Rattle.numbers.specs.Lines.{begunWith}
+use Rattle.numbers.proofs.Lines.{begun-parts}
 use Rattle.roster_file.specs.Rights.{Said, gives, faulty, readLine, withRight}
 use Rattle.roster_file.specs.File.{accepted, follow, readLines, namesLine, fromStart, readFile}
 use Rattle.roster_file.specs.Claims.{LineGives, FileGives, Accepts, AcceptedOpens}
@@ -135,22 +136,15 @@ no-words : Good (zeros 16)
 unfolding zeros
 no-words = record { sixteen = refl; words = zero-words 16; clear = λ who h. no-right who (key 63) h }
 
-start-fill : (ls : List (List ℕ)) (s : List ℕ) → fromStart ls ≡ accepted s → Filled (zeros 16) ls s
-start-fill [] s e = let z : _≡_ {A = ℕ} 0 1 = cc in absurd (omega arith)
-start-fill (l ∷ []) s e = let z : _≡_ {A = ℕ} 0 1 = cc in absurd (omega arith)
-start-fill (l ∷ m ∷ ls) s e = go (bool (same l namesLine))
-  where
-    go : (same l namesLine ≡ true) ⊎ (same l namesLine ≡ false) → Filled (zeros 16) (l ∷ m ∷ ls) s
-    go (inl t) = idle-line (zeros 16) l (m ∷ ls) s 11 (ap readLine (same-equal l namesLine t) ∙ names-idle) (lines-fill (m ∷ ls) (zeros 16) s no-words (rw t at e))
-    go (inr t) = let e′ = rw t at e in let z : _≡_ {A = ℕ} 0 1 = cc in absurd (omega arith)
-
 pub file-fill : (file roster : List ℕ) → readFile file ≡ accepted roster → Filled (zeros 16) (parts 10 file) roster
 unfolding readFile
-file-fill file s e = go (bool (ltb 16384 (length file)))
+file-fill file s e = go (begunWith 16384 namesLine file) refl e
   where
-    go : (ltb 16384 (length file) ≡ true) ⊎ (ltb 16384 (length file) ≡ false) → Filled (zeros 16) (parts 10 file) s
-    go (inl t) = let e′ = rw t at e in let z : _≡_ {A = ℕ} 0 1 = cc in absurd (omega arith)
-    go (inr t) = start-fill (parts 10 file) s (rw t at e)
+    go : (o : Option (List (List ℕ))) → begunWith 16384 namesLine file ≡ o → fromStart o ≡ accepted s → Filled (zeros 16) (parts 10 file) s
+    go none b q = let z : _≡_ {A = ℕ} 0 1 = cc in absurd (omega arith)
+    go (some lines) b q =
+        subst (λ (ps : List (List ℕ)). Filled (zeros 16) ps s) (sym (begun-parts 16384 namesLine file lines b))
+        (idle-line (zeros 16) namesLine lines s 11 names-idle (lines-fill lines (zeros 16) s no-words q))
 
 -- ---- what is claimed of them
 

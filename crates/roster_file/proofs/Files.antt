@@ -1,14 +1,14 @@
 -- A file line by line: what the lines so far have given, and the lines from here on, decide.
 use Prim.Native.Nat.{ℕ, _+_, _-_, _≤_, _<_}
 use mathlib.Core.Path.{_≡_, refl, sym, ap, _∙_, subst}
-use mathlib.Core.Bool.{true, false}
 use mathlib.Core.List.{List, [], _∷_}
+use mathlib.Core.Option.{none, some}
 use native.Mathlib.Omega.{arith}
-use borrow.Author.Tests.{lt-ltb, le-ltb}
 use lib.ListN.{length, take, drop, drop-of-length-le}
 use Rattle.rules.specs.Words.{zeros}
-use Rattle.numbers.specs.Parts.{before, parts, same}
-use Rattle.numbers.proofs.Parts.{end-high, part-is, last-part, further-parts}
+use Rattle.numbers.specs.Parts.{before, parts}
+use Rattle.numbers.specs.Lines.{begunWith}
+use Rattle.numbers.proofs.Parts.{part-is, last-part, further-parts}
 use Rattle.roster_file.specs.Rights.{Said, gives, faulty, readLine}
 use Rattle.roster_file.specs.File.{Outcome, accepted, refused, atEnd, follow, readLines, namesLine, fromStart, readFile}
 use Rattle.roster_file.specs.Answers.{Added, Went, ReadAs}
@@ -72,40 +72,13 @@ all-read words file at h = rw (drop-of-length-le file h)
 -- ---- the start
 
 module _ (file : List ℕ) where
-  pub long-refused : 16384 < length file → readFile file ≡ refused 10
+  pub start-read : (lines : List (List ℕ)) → begunWith 16384 namesLine file ≡ some lines → readFile file ≡ readLines (zeros 16) lines
   unfolding readFile
-  long-refused h = rw (lt-ltb 16384 (length file) h)
+  start-read lines e = ap fromStart e
 
-  module _ (short : length file ≤ 16384) (end : ℕ) (e : end ≡ 0 + length (before 10 (drop 0 file))) where
-    low : 0 ≤ length file
-    low = omega arith
-
-    pub start-end : end ≤ length file
-    start-end = end-high 10 file 0 end low e
-
-    opened : readFile file ≡ fromStart (parts 10 file)
-    unfolding readFile
-    opened = rw (le-ltb 16384 (length file) short)
-
-    pub start-unended : end ≡ length file → readFile file ≡ refused 10
-    start-unended h = opened ∙ ap (λ (ps : List (List ℕ)). fromStart (before 10 file ∷ ps)) (last-part 10 file 0 end low e h)
-
-    module _ (n : end ≡ length file → ⊥) where
-      parted : readFile file ≡ fromStart (before 10 file ∷ parts 10 (drop (end + 1) file))
-      parted = opened ∙ ap (λ (ps : List (List ℕ)). fromStart (before 10 file ∷ ps)) (further-parts 10 file 0 end low e n)
-
-      first-line : take end file ≡ before 10 file
-      first-line = let z : end - 0 ≡ end = omega arith in ap (λ (n : ℕ). take n file) (sym z) ∙ part-is 10 file 0 end low e
-
-      pub other-names : same (take end file) namesLine ≡ false → readFile file ≡ refused 10
-      other-names h =
-          let q : same (before 10 file) namesLine ≡ false = ap (λ (l : List ℕ). same l namesLine) (sym first-line) ∙ h in
-          parted ∙ rw q
-
-      pub names-read : same (take end file) namesLine ≡ true → readFile file ≡ readLines (zeros 16) (parts 10 (drop (end + 1) file))
-      names-read h =
-          let q : same (before 10 file) namesLine ≡ true = ap (λ (l : List ℕ). same l namesLine) (sym first-line) ∙ h in
-          parted ∙ rw q
+  pub start-refused : begunWith 16384 namesLine file ≡ none → readFile file ≡ refused 10
+  unfolding readFile
+  start-refused e = ap fromStart e
 
 -- ---- the outcome in the code's words
 

@@ -91,7 +91,7 @@ names-parts who (n ∷ ns) rest =
     ∙ part-then 10 (rightText who n) (namesText who ns ++ rest) (right-free who n)
     ∙ ap (λ (ls : List (List ℕ)). rightText who n ∷ ls) (names-parts who ns rest)
 
-parties-parts : (roster whos : List ℕ) → parts 10 (partiesText roster whos) ≡ linesOf roster whos ++ ([] ∷ [])
+pub parties-parts : (roster whos : List ℕ) → parts 10 (partiesText roster whos) ≡ linesOf roster whos ++ ([] ∷ [])
 unfolding partyText
 parties-parts roster [] = refl
 parties-parts roster (who ∷ whos) =

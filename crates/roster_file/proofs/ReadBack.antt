@@ -6,25 +6,25 @@ use mathlib.Core.Bool.{Bool, true, false}
 use mathlib.Core.List.{List, [], _∷_, _++_}
 use native.Mathlib.Nat.{le-of-suc-le-suc}
 use native.Mathlib.Omega.{arith}
-use borrow.Author.Tests.{le-ltb, ltb-true, ltb-false}
+use borrow.Author.Tests.{ltb-true, ltb-false}
 use lib.Dec.{ltb}
-use lib.ListN.{length, getD}
+use lib.ListN.{getD}
 use Rattle.rules.specs.Lists.{All, In}
 use Rattle.rules.specs.Names.{Name, partition, key, NameInRange, bit}
 use Rattle.rules.specs.Words.{parties, zeros, opening}
 use Rattle.rules.specs.Claims.{Iff}
 use Rattle.rules.proofs.BitLaws.{no-bit}
 use Rattle.rules.proofs.ListLaws.{bool, clash, All-at}
-use Rattle.numbers.proofs.Equal.{equal-same}
 use Rattle.roster_file.specs.Rights.{gives, readLine, withRight, wordOf, bitOf}
-use Rattle.roster_file.specs.File.{accepted, readLines, namesLine, fromStart, readFile}
-use Rattle.roster_file.specs.Printed.{rightText, printed, outputOf}
+use Rattle.roster_file.specs.File.{accepted, readLines, namesLine, readFile}
+use Rattle.roster_file.specs.Printed.{rightText, partiesText, printed, outputOf}
 use Rattle.roster_file.specs.Claims.{LineGives, GivesRight, EveryRosterReadsBack, OutputReadsBack, AlikeOpensAlike}
+use Rattle.roster_file.proofs.Faults.{begun-reads}
 use Rattle.roster_file.proofs.GivenRights.{gives-same, line-back}
 use Rattle.roster_file.proofs.RosterRights.{has, has-bit, word-low, Good, accepts-good, same-rights}
 use Rattle.roster_file.proofs.FileRights.{idle, names-idle, end-idle, file-fill, file-gives, accepted-opens}
 use Rattle.rules.proofs.Members.{in-left, append-in, in-from, from-in, All-in}
-use Rattle.roster_file.proofs.PrintedLines.{in-names, names-in, namesOf, linesOf, LineOf, in-lines, lines-in, printed-parts}
+use Rattle.roster_file.proofs.PrintedLines.{in-names, names-in, namesOf, linesOf, LineOf, in-lines, lines-in, parties-parts, printed-parts}
 use Rattle.roster_file.proofs.PrintedShort.{printed-short}
 
 -- ---- lines that all give rights
@@ -33,10 +33,6 @@ lines-read : (ls : List (List ℕ)) (r : List ℕ) → All GivesRight ls → (s 
 lines-read [] r h = (r, refl)
 lines-read (l ∷ []) r ((who, (n, e)), h) = (withRight who n r, rw e refl)
 lines-read (l ∷ m ∷ ls) r ((who, (n, e)), h) = rw e (lines-read (m ∷ ls) (withRight who n r) h)
-
-start-reads : (ls : List (List ℕ)) → fromStart (namesLine ∷ (ls ++ ([] ∷ []))) ≡ readLines (zeros 16) (ls ++ ([] ∷ []))
-start-reads [] = rw (equal-same namesLine)
-start-reads (l ∷ ls) = rw (equal-same namesLine)
 
 -- ---- the rights of a roster that an opening accepts are in range
 
@@ -49,7 +45,7 @@ module _ (r : List ℕ) (g : Good r) (who : ℕ) (h : who < 8) where
       go (inr t) =
           let w : ℕ = getD r (wordOf who n) 0 in
           let l : w < 2 ^ 64 = All-at (λ w. w < 2 ^ 64) r (g .words) (wordOf who n) (rw (g .sixteen) (word-low who n h)) in
-          clash (bit w (bitOf n)) (sym (has-bit r who n) ∙ e) (sym (no-bit w (bitOf n) l (ltb-false (bitOf n) 64 t)))
+          clash (bit w (bitOf n)) (sym (has-bit r who n) ∙ e) (sym (no-bit 64 w (bitOf n) l (ltb-false (bitOf n) 64 t)))
 
   right-range : (n : Name) → has r who n ≡ true → NameInRange n
   right-range (partition c) e = le-of-suc-le-suc (right-low (partition c) e)
@@ -103,10 +99,11 @@ module _ (r : List ℕ) (g : Good r) where
 -- ---- so it reads back
 
 printed-reads : (r : List ℕ) → readFile (printed r) ≡ readLines (zeros 16) (linesOf r parties ++ ([] ∷ []))
-unfolding readFile
+unfolding printed
 printed-reads r =
     let l = printed-short r in
-    rw (le-ltb 16384 (length (printed r)) (omega arith)) (ap fromStart (printed-parts r) ∙ start-reads (linesOf r parties))
+    let rest : List ℕ = partiesText r parties in
+    begun-reads (printed r) rest (record { short = omega arith; begins = refl }) ∙ ap (readLines (zeros 16)) (parties-parts r parties)
 
 iff-same : (a b : Bool) → Iff (a ≡ true) (b ≡ true) → a ≡ b
 iff-same true b e = sym (e .0 refl)

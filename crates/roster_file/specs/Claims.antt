@@ -15,6 +15,7 @@ use Rattle.rules.specs.Words.{badRoster, opening}
 use Rattle.rules.specs.Claims.{Iff}
 use Rattle.numbers.specs.Numbers.{natural, whole}
 use Rattle.numbers.specs.Parts.{parts}
+use Rattle.numbers.specs.Lines.{BadStart, Begun}
 use Rattle.roster_file.specs.Rights.{Kind, kindOf, inRange, gives, faulty, readLine}
 use Rattle.roster_file.specs.File.{accepted, refused, namesLine, readFile}
 use Rattle.roster_file.specs.Printed.{printed, output}
@@ -89,10 +90,6 @@ pub record Faults (line : List ℕ) : Type 0 where
 abbrev pub LineFaults : Type 0
 LineFaults = (line : List ℕ) → Faults line
 
--- R10: the file is too long, or does not begin with the names line and its line feed
-abbrev pub BadStart : List ℕ → Type 0
-BadStart file = (16384 < length file) ⊎ ((rest : List ℕ) → file ≢ namesLine ++ (10 ∷ rest))
-
 -- R11, R12: what stands at a place of the file: a line that is faulty by n, or at the end something that no line feed ends
 abbrev pub FaultyBy : ℕ → List ℕ → List (List ℕ) → Type 0
 FaultyBy n last [] = (last ≢ []) × (n ≡ 11)
@@ -110,15 +107,10 @@ pub record FirstFault (n : ℕ) (rest : List ℕ) : Type 0 where
   pub good : All GivesRight before
   pub fault : FaultyBy n line after
 
--- the file begins as it should, and goes on with the rest
-pub record Begun (file rest : List ℕ) : Type 0 where
-  pub short : length file < 16385
-  pub begins : file ≡ namesLine ++ (10 ∷ rest)
-
 -- D5: refused by 10 exactly if the start is bad; else by the first faulty line, if there is one
 pub record Refuses (file : List ℕ) : Type 0 where
-  pub ten : Iff (readFile file ≡ refused 10) (BadStart file)
-  pub lines : (rest : List ℕ) → Begun file rest → (n : ℕ) → Iff (readFile file ≡ refused n) (FirstFault n rest)
+  pub ten : Iff (readFile file ≡ refused 10) (BadStart 16384 namesLine file)
+  pub lines : (rest : List ℕ) → Begun 16384 namesLine file rest → (n : ℕ) → Iff (readFile file ≡ refused n) (FirstFault n rest)
 
 abbrev pub FirstFaultDecides : Type 0
 FirstFaultDecides = (file : List ℕ) → Refuses file

@@ -1,11 +1,9 @@
 -- A whole roster file: the 16 words that it gives, or its refusal.
-use mathlib.Core.Bool.{cond}
 use mathlib.Core.List.{List, [], _∷_}
+use mathlib.Core.Option.{Option, none, some}
 use Prim.Native.Nat.{ℕ}
-use lib.Dec.{ltb}
-use lib.ListN.{length}
 use Rattle.rules.specs.Words.{zeros}
-use Rattle.numbers.specs.Parts.{parts, same}
+use Rattle.numbers.specs.Lines.{begunWith}
 use Rattle.roster_file.specs.Rights.{Said, gives, faulty, readLine, withRight}
 
 -- D4, D5: the roster that a file gives, or the number by which it is refused
@@ -33,12 +31,11 @@ readLines roster (l ∷ m ∷ ls) = follow (readLine l) roster (λ next. readLin
 unfoldable pub namesLine : List ℕ
 namesLine = 112 ∷ 97 ∷ 114 ∷ 116 ∷ 121 ∷ 32 ∷ 107 ∷ 105 ∷ 110 ∷ 100 ∷ 32 ∷ 110 ∷ 97 ∷ 109 ∷ 101 ∷ []
 
--- D1, R10: the first line is the names line
-abbrev pub fromStart : List (List ℕ) → Outcome
-fromStart [] = refused 10
-fromStart (l ∷ []) = refused 10
-fromStart (l ∷ m ∷ ls) = cond (same l namesLine) (readLines (zeros 16) (m ∷ ls)) (refused 10)
+-- R10: the lines after the names line, if the file begins with it
+abbrev pub fromStart : Option (List (List ℕ)) → Outcome
+fromStart none = refused 10
+fromStart (some lines) = readLines (zeros 16) lines
 
--- D1, R10: a file of at most 16,384 bytes, by its lines, which line feeds (10) end
+-- D1: a file of at most 16,384 bytes
 unfoldable pub readFile : List ℕ → Outcome
-readFile file = cond (ltb 16384 (length file)) (refused 10) (fromStart (parts 10 file))
+readFile file = fromStart (begunWith 16384 namesLine file)

@@ -4,7 +4,7 @@ use Prim.Native.Nat.{ℕ, _+_}
 use lib.ListN.{getD}
 use Rattle.rules.specs.Names.{Name, partition, key, bitsIn}
 use Rattle.rules.specs.Words.{parties}
-use Rattle.numbers.specs.Numbers.{decimal, decimalKey, keyOf}
+use Rattle.numbers.specs.Numbers.{decimal, decimalKey, keyOf, refusalText}
 use Rattle.roster_file.specs.File.{Outcome, accepted, refused, namesLine, readFile}
 
 -- D6: the names in a partition word and a key word: partitions before keys, smallest number first
@@ -38,10 +38,10 @@ partiesText roster (who ∷ whos) = partyText roster who ++ partiesText roster w
 unfoldable pub printed : List ℕ → List ℕ
 printed roster = namesLine ++ (10 ∷ partiesText roster parties)
 
--- D7: the roster, or `no` and the refusal, with a line feed
+-- D7: the roster, or the refusal
 unfoldable pub outputOf : Outcome → List ℕ
 outputOf (accepted roster) = printed roster
-outputOf (refused n) = 110 ∷ 111 ∷ (decimal n ++ (10 ∷ []))
+outputOf (refused n) = refusalText n
 
 -- D7: the output
 abbrev pub output : List ℕ → List ℕ

@@ -1,4 +1,5 @@
 // A roster from a file: what a line gives, and the whole file in one pass.
+use numbers::Beginning;
 use numbers::Natural;
 use numbers::Whole;
 ghost use mathlib.Core.Path.{_≡_};
@@ -298,18 +299,12 @@ pub fn read_roster(file: &[u8], roster: &mut [u64]) -> Reading
     requires { ⌜ length (now roster) ≡ 16 ⌝ }
     ensures { λ r. ⌜ ReadAs (readFile (now (file .entry))) r (now (roster .entry)) (now (roster .exit)) ⌝ }
 {
-    if 16384 < file.len() {
+    let begun = numbers::lines_start(file, 16384, b"party kind name");
+    let Beginning::At(from) = begun else {
         return Reading::Refused(10);
-    }
-    let end = numbers::part_end(file, 0, 10);
-    if end == file.len() {
-        return Reading::Refused(10);
-    }
-    if !numbers::same(&file[..end], b"party kind name") {
-        return Reading::Refused(10);
-    }
+    };
     let mut words = [0u64; 16];
-    let read = read_lines(file, end + 1, &mut words);
+    let read = read_lines(file, from, &mut words);
     let Reading::Given = read else {
         return read;
     };

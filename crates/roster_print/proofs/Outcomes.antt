@@ -1,13 +1,13 @@
 -- What is printed, and what becomes of the space, by what the file came to.
 use Prim.Native.Nat.{ℕ, _≤_}
 use mathlib.Core.Path.{_≡_, refl, sym, subst}
-use mathlib.Core.List.{List, [], _∷_}
+use mathlib.Core.List.{List}
 use native.Mathlib.Omega.{arith}
-use lib.ListN.{length, length-append}
+use lib.ListN.{length}
 use Rattle.rules.specs.Words.{opening}
-use Rattle.numbers.specs.Numbers.{decimal}
+use Rattle.numbers.specs.Numbers.{refusalText}
 use Rattle.numbers.specs.Written.{Written}
-use Rattle.numbers.proofs.Keys.{decimal-short}
+use Rattle.numbers.proofs.Keys.{refusal-short}
 use Rattle.roster_file.specs.File.{Outcome, refused, readFile}
 use Rattle.roster_file.specs.Printed.{printed, outputOf, output}
 use Rattle.roster_file.specs.Answers.{ReadAs}
@@ -17,14 +17,6 @@ use Rattle.roster_file.proofs.Files.{given-outcome, refused-outcome}
 use Rattle.roster_file.proofs.Faults.{refusal-small}
 use Rattle.roster_print.specs.Answers.{SetUpBy}
 use Rattle.roster_print.specs.declared.SetUp.the-variants as set-up
-
--- `no` and a number of two digits, and a line feed
-short : (n : ℕ) → n ≤ 12 → length (outputOf (refused n)) ≤ 8208
-unfolding outputOf
-short n h =
-    let d = decimal-short 1 n (omega arith) in
-    let e = length-append (decimal n) (10 ∷ []) in
-    omega arith
 
 module _ (file words : List ℕ) (r : Reading) (after : List ℕ) (a : ReadAs (readFile file) r words after) where
   module _ (g : r ≡ Given) (k : ℕ) where
@@ -40,10 +32,11 @@ module _ (file words : List ℕ) (r : Reading) (after : List ℕ) (a : ReadAs (r
     outcome : (readFile file ≡ refused n) × (after ≡ words)
     outcome = refused-outcome (readFile file) r words after a n g
 
-    pub refusal-short : length (outputOf (refused n)) ≤ 8208
-    refusal-short = short n (refusal-small file n (outcome .0))
+    pub refused-short : length (refusalText n) ≤ 5
+    refused-short = refusal-short n (omega (arith, refusal-small file n (outcome .0)))
 
-    pub refused-output : (out out′ : List ℕ) (k : ℕ) → Written out 0 (outputOf (refused n)) out′ k → Written out 0 (output file) out′ k
+    pub refused-output : (out out′ : List ℕ) (k : ℕ) → Written out 0 (refusalText n) out′ k → Written out 0 (output file) out′ k
+    unfolding outputOf
     refused-output out out′ k w = subst (λ (o : Outcome). Written out 0 (outputOf o) out′ k) (sym (outcome .0)) w
 
     pub refused-keeps : (space : List ℕ) (k : ℕ) → SetUpBy (readFile file) (set-up.Refused k) words after space space

@@ -5,9 +5,9 @@ ghost use mathlib.Core.List.{[], _∷_, _++_, map};
 ghost use Prim.Native.Nat.{_+_, _<_, _≤_};
 ghost use lib.ListN.{length};
 ghost use Rattle.numbers.specs.Written.{Written};
-ghost use Rattle.roster_file.specs.File.{readFile, refused};
+ghost use Rattle.roster_file.specs.File.{readFile};
 ghost use Rattle.rules.specs.Names.{bitsIn};
-ghost use Rattle.roster_file.specs.Printed.{nameText, rightText, namesText, partyText, printed, outputOf, output};
+ghost use Rattle.roster_file.specs.Printed.{nameText, rightText, namesText, partyText, printed, output};
 ghost use Rattle.roster_print.specs.Answers.{named, printedBy, SetUpBy};
 
 // Whether a word's bits are partitions or keys.
@@ -89,16 +89,6 @@ fn render_roster(roster: &[u64], out: &mut [u8]) -> usize
     end
 }
 
-// D7
-fn render_refusal(n: u32, out: &mut [u8]) -> usize
-    requires { ⌜ length (outputOf (refused n)) ≤ length (now out) ⌝ }
-    ensures { λ r. ⌜ Written (now (out .entry)) 0 (outputOf (refused n)) (now (out .exit)) r ⌝ }
-{
-    let a = numbers::place(b"no", out, 0);
-    let b = numbers::render_decimal(n as u64, out, a);
-    numbers::place(b"\n", out, b)
-}
-
 // D7: the file is read; then the space is opened with its roster, which is printed, or the refusal is.
 pub fn set_up(file: &[u8], roster: &mut [u64], space: &mut [u64], out: &mut [u8]) -> SetUp
     requires { ⌜ (length (now roster) ≡ 16) × (8208 ≤ length (now out)) ⌝ }
@@ -111,7 +101,7 @@ pub fn set_up(file: &[u8], roster: &mut [u64], space: &mut [u64], out: &mut [u8]
             space::open(space, roster);
             SetUp::Open(render_roster(roster, out))
         }
-        Reading::Refused(n) => SetUp::Refused(render_refusal(n, out)),
+        Reading::Refused(n) => SetUp::Refused(numbers::render_refusal(n, out)),
     }
 }
 

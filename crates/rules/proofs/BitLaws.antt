@@ -40,7 +40,7 @@ or-digit a b =
     ap (λ (x : ℕ). x % 2) (or-step a b)
     ∙ digits-mod (bitOr (a / 2) (b / 2)) (max-lt2 (a % 2) (b % 2) (mod-lt a (zero-lt-suc 1)) (mod-lt b (zero-lt-suc 1)))
 
-or-bit : (w v d : ℕ) → bitOr w v / 2 ^ d % 2 ≡ max (w / 2 ^ d % 2) (v / 2 ^ d % 2)
+pub or-bit : (w v d : ℕ) → bitOr w v / 2 ^ d % 2 ≡ max (w / 2 ^ d % 2) (v / 2 ^ d % 2)
 or-bit w v d = ap (λ (x : ℕ). x % 2) (or-shr w v d) ∙ or-digit (w / 2 ^ d) (v / 2 ^ d)
 
 -- 2 ^ c has no bit but c
@@ -106,6 +106,6 @@ bit-set-kept (x ∷ l) zero (suc p) c d h = h
 bit-set-kept (x ∷ l) (suc who) zero c d h = h
 bit-set-kept (x ∷ l) (suc who) (suc p) c d h = bit-set-kept l who p c d h
 
--- a 64-bit word has no bit past 63
-pub no-bit : (w c : ℕ) → w < 2 ^ 64 → 64 ≤ c → false ≡ bit w c
-no-bit w c h l = let z : w / 2 ^ c ≡ 0 = div-eq-of-lt (lt-of-lt-of-le h (pow-mono l)) in rw z
+-- a word of n bits has no bit past them
+pub no-bit : (n w c : ℕ) → w < 2 ^ n → n ≤ c → false ≡ bit w c
+no-bit n w c h l = let z : w / 2 ^ c ≡ 0 = div-eq-of-lt (lt-of-lt-of-le h (pow-mono l)) in rw z

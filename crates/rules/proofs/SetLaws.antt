@@ -97,7 +97,7 @@ and-bit a b c = rw (and-digit a b c) (go (a / 2 ^ c % 2) (b / 2 ^ c % 2) (mod-lt
     go (suc (suc x)) y h k = absurd (omega arith)
 
 -- tests that hold of each other are one test
-same-truth : (a b : Bool) → (a ≡ true → b ≡ true) → (b ≡ true → a ≡ true) → a ≡ b
+pub same-truth : (a b : Bool) → (a ≡ true → b ≡ true) → (b ≡ true → a ≡ true) → a ≡ b
 same-truth true b f h = sym (f refl)
 same-truth false true f h = h refl
 same-truth false false f h = refl

@@ -6,7 +6,7 @@ use native.Mathlib.Omega.{arith}
 use borrow.Author.Needs.{needs}
 use Rattle.rules.specs.Words.{Exit}
 use Rattle.roster_file.proofs.PrintedShort.{printed-short}
-use Rattle.roster_print.proofs.Outcomes.{given-output, given-opens, refusal-short, refused-output, refused-keeps}
+use Rattle.roster_print.proofs.Outcomes.{given-output, given-opens, refused-short, refused-output, refused-keeps}
 use Rattle.roster_print.proofs.set_up.Statement.{statement}
 use Rattle.roster_print.proofs.set_up.Tie as tie
 
@@ -75,7 +75,7 @@ render-refusal-requires : tie.Need-render-refusal-requires
 render-refusal-requires c κs =
     let told = to-refusal-refused c in
     let read = refused-read told in
-    let l = refusal-short (file-at read) (roster-at read) (read .read-roster .result) (after-at read) (read .read-roster .ensures) _ (told .before .read .given .1) in
+    let l = refused-short (file-at read) (roster-at read) (read .read-roster .result) (after-at read) (read .read-roster .ensures) _ (told .before .read .given .1) in
     omega (arith, read-start read .pre .1)
 
 same-length : tie.Need-same-length

@@ -11,7 +11,7 @@ returns : tie.Need-returns
 returns c = search needs
 
 returns-2 : tie.Need-returns-2
-returns-2 c = no-bit _ _ (c .before .fits .w .fits) (c .if1 .left)
+returns-2 c = no-bit 64 _ _ (c .before .fits .w .fits) (c .if1 .left)
 
 pub has-bit-spec : {M : Type 1} → statement M
 has-bit-spec = tie.close (tie.spec shr-result returns returns-2)

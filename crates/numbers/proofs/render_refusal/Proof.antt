@@ -1,13 +1,11 @@
 -- Its three parts are written one after another.
 use Prim.Native.Nat.{ℕ}
 use mathlib.Core.List.{List, [], _∷_, _++_}
-use Rattle.numbers.specs.Numbers.{decimal}
+use Rattle.numbers.specs.Numbers.{decimal, refusalText}
 use Rattle.numbers.proofs.Placed.{Unfinished, begun-front, part-room, part-done}
-use Rattle.roster_file.specs.File.{refused}
-use Rattle.roster_file.specs.Printed.{outputOf}
 use borrow.Author.Needs.{needs}
-use Rattle.roster_print.proofs.render_refusal.Statement.{statement}
-use Rattle.roster_print.proofs.render_refusal.Tie as tie
+use Rattle.numbers.proofs.render_refusal.Statement.{statement}
+use Rattle.numbers.proofs.render_refusal.Tie as tie
 
 -- the places of the walk, each by its way to the place before it: `a-b` goes from `a` back to `b`; `to-a` is where the call of `a` begins
 abbrev to-word-start : tie.After-place-arg2 → tie.Start
@@ -45,10 +43,10 @@ done-number c = to-end-number (end-lent (done-end c))
 
 -- the refusal's text, of which `left` is still to be written from `at` on
 abbrev Refusing : tie.Start → List ℕ → ℕ → List ℕ → Type 0
-Refusing s out at left = Unfinished (s .args .out .now) 0 (outputOf (refused (s .args .n))) out at left
+Refusing s out at left = Unfinished (s .args .out .now) 0 (refusalText (s .args .n)) out at left
 
 start : (s : tie.Start) → Refusing s (s .args .out .now) 0 ((110 ∷ 111 ∷ []) ++ (decimal (s .args .n) ++ (10 ∷ [])))
-unfolding outputOf
+unfolding refusalText
 start s = begun-front _ _ (s .pre)
 
 after-word : (c : tie.After-place) → Refusing (word-start c) (c .place .last .1 .0) (c .place .result) (decimal (word-start c .args .n) ++ (10 ∷ []))
