@@ -9,6 +9,8 @@ use Rattle.rules.specs.Calls.{Answer, done, found, nothing, refused}
 use Rattle.rules.specs.Words.{Exit}
 use Rattle.roster_file.specs.File as file
 use Rattle.roster_file.specs.File.{Outcome, readFile}
+use Rattle.start_order.specs.Call as start
+use Rattle.start_order.specs.Call.{resultAfter}
 
 -- C5: 0 is "done" and "none", 1 to 8 is "found" with that count, 100 plus its number a refusal
 abbrev pub codeOf : Answer → ℕ
@@ -39,3 +41,13 @@ wordsOf (file.refused n) words = words
 pub record Read (r : ℕ) (lent after : List ℕ) (o : Outcome) : Type 0 where
   pub code : r ≡ codeOfFile o
   pub words : after ≡ wordsOf o lent
+
+-- O5: 0 for an order, the party and 1 for a circle, 100 plus the refusal's number
+abbrev pub codeOfStart : start.Outcome → ℕ
+codeOfStart (start.ordered ws) = 0
+codeOfStart (start.circle p) = p + 1
+codeOfStart (start.refused n) = 100 + n
+
+pub record Started (r : ℕ) (lent after : List ℕ) (o : start.Outcome) : Type 0 where
+  pub code : r ≡ codeOfStart o
+  pub words : after ≡ resultAfter o lent

@@ -1,13 +1,15 @@
-// The five calls, and the reading of a roster, for programs in C, exported as include/space.h declares them.
+// The five calls, the reading of a roster and the start order, for programs in C, exported as include/space.h declares them.
 use roster_file::Reading;
 use space::Answer;
+use start_order::Start;
 ghost use mathlib.Core.Path.{_≡_};
 ghost use mathlib.Core.List.{[]};
 ghost use Rattle.rules.specs.Matching.{pair, looking, receiving, taking};
 ghost use Rattle.rules.specs.Calls.{put, seek};
 ghost use Rattle.rules.specs.Words.{call, opening};
 ghost use Rattle.space.specs.Answers.{meant, Small};
-ghost use Rattle.space_c.specs.Codes.{codeOf, Left, readInto, Read};
+ghost use Rattle.start_order.specs.Call.{callOn};
+ghost use Rattle.space_c.specs.Codes.{codeOf, Left, readInto, Read, Started};
 
 // C1
 #[no_mangle]
@@ -98,6 +100,19 @@ pub extern "C" fn space_read_roster(file: &[u8], roster: &mut [u64]) -> u32
     match read {
         Reading::Given => 0,
         Reading::Refused(n) => 100 + n,
+    }
+}
+
+// O4, O5: the start order.
+#[no_mangle]
+pub extern "C" fn space_start_order(pairs: &[u64], result: &mut [u64]) -> u32
+    ensures { λ r. ⌜ Started r (now (result .entry)) (now (result .exit)) (callOn (now (pairs .entry)) (now (result .entry))) ⌝ }
+{
+    let start = start_order::start_order(pairs, result);
+    match start {
+        Start::Order => 0,
+        Start::Circle(p) => p + 1,
+        Start::Refused(n) => 100 + n,
     }
 }
 

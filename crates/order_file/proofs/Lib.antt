@@ -1,0 +1,6 @@
+pub mod Pairs
+pub mod Files
+pub mod Kept
+pub mod Outcomes
+pub mod Comes
+pub mod Texts

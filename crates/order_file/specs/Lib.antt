@@ -1,0 +1,4 @@
+pub mod File
+pub mod Printed
+pub mod Claims
+pub mod Answers

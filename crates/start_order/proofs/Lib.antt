@@ -1,0 +1,9 @@
+pub mod Pairs
+pub mod Chains
+pub mod Places
+pub mod Circles
+pub mod Orders
+pub mod Claims
+pub mod Outcomes
+pub mod Sets
+pub mod Turns

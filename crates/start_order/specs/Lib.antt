@@ -1,0 +1,5 @@
+pub mod Pairs
+pub mod Order
+pub mod Call
+pub mod Claims
+pub mod Answers
