@@ -13,9 +13,10 @@ use Rattle.numbers.proofs.NumbersBack.{free}
 use Rattle.numbers.proofs.Lines.{begun-lines, bad-start}
 use Rattle.start_order.specs.Pairs.{Pairs}
 use Rattle.start_order.specs.Call.{refused, startOrder}
+use Rattle.start_order.proofs.Answered.{Bounded, start-bounded}
 use Rattle.order_file.specs.File.{both, pairBy, readPair, follow, readPairs, namesLine, fromPairs, readFile}
 use Rattle.order_file.specs.Claims.{LineOf, LinesOf, FileComesTo}
-use Rattle.order_file.proofs.Outcomes.{Bounded, start-bounded, pairs-bounded, bad-comes, lines-come}
+use Rattle.order_file.proofs.Outcomes.{pairs-bounded, bad-comes, lines-come}
 
 -- ---- a line of a pair reads as that pair, and nothing else does
 

@@ -1,13 +1,14 @@
 -- What the start order answered, as the contract in C has it.
 use Prim.Native.Nat.{ℕ, _+_, _≤_, _<_}
-use mathlib.Core.Path.{_≡_, refl, sym, ap, _∙_}
-use mathlib.Core.List.{List}
-use native.Mathlib.Omega.{arith}
+use mathlib.Core.Path.{_≡_, refl, sym, ap, _∙_, subst}
+use mathlib.Core.List.{List, map}
+use lib.ListN.{length}
+use Rattle.start_order.specs.Pairs.{pairOf}
 use Rattle.start_order.specs.Call.{Outcome, ordered, circle, refused, callOn}
 use Rattle.start_order.specs.Answers.{Settled, answerIn}
 use Rattle.start_order.specs.declared.Start.{Start}
 use Rattle.start_order.specs.declared.Start.the-variants as start
-use Rattle.start_order.proofs.Claims.{circle-small, refusal-small}
+use Rattle.start_order.proofs.Answered.{was-circle, was-refused, Bounded, start-bounded}
 use Rattle.space_c.specs.Codes.{codeOfStart, Started}
 
 -- the number that C has for an answer of the code
@@ -27,18 +28,11 @@ started {o} s a e = record { code = sym (ap codeIn (sym (s .answer) ∙ e)) ∙ 
 -- ---- the numbers fit
 
 module _ (pairs result : List ℕ) (r : Start) (after : List ℕ) (s : Settled (callOn pairs result) r result after) where
-  by-answer : (o : Outcome) → r ≡ answerIn o → (p : ℕ) → r ≡ start.Circle p → o ≡ circle p
-  by-answer (ordered ws) e p h = let q : start.Order ≡ start.Circle p = sym e ∙ h in let z : _≡_ {A = ℕ} 0 1 = cc in absurd (omega arith)
-  by-answer (circle q) e p h = let k : start.Circle q ≡ start.Circle p = sym e ∙ h in let same : q ≡ p = cc in ap circle same
-  by-answer (refused n) e p h = let q : start.Refused n ≡ start.Circle p = sym e ∙ h in let z : _≡_ {A = ℕ} 0 1 = cc in absurd (omega arith)
-
-  by-refusal : (o : Outcome) → r ≡ answerIn o → (n : ℕ) → r ≡ start.Refused n → o ≡ refused n
-  by-refusal (ordered ws) e n h = let q : start.Order ≡ start.Refused n = sym e ∙ h in let z : _≡_ {A = ℕ} 0 1 = cc in absurd (omega arith)
-  by-refusal (circle q) e n h = let k : start.Circle q ≡ start.Refused n = sym e ∙ h in let z : _≡_ {A = ℕ} 0 1 = cc in absurd (omega arith)
-  by-refusal (refused m) e n h = let k : start.Refused m ≡ start.Refused n = sym e ∙ h in let same : m ≡ n = cc in ap refused same
+  bounded : (o : Outcome) → callOn pairs result ≡ o → Bounded 15 o
+  bounded o e = subst (Bounded 15) e (start-bounded (map pairOf pairs) (length result))
 
   pub party-fits : (p : ℕ) → r ≡ start.Circle p → p < 8
-  party-fits p h = circle-small _ _ p (by-answer (callOn pairs result) (s .answer) p h)
+  party-fits p h = bounded (circle p) (was-circle (callOn pairs result) r result after s p h)
 
   pub refusal-fits : (n : ℕ) → r ≡ start.Refused n → n ≤ 16
-  refusal-fits n h = refusal-small _ _ n (by-refusal (callOn pairs result) (s .answer) n h)
+  refusal-fits n h = bounded (refused n) (was-refused (callOn pairs result) r result after s n h) .1

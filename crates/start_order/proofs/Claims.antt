@@ -1,13 +1,12 @@
 -- The claims, by name.
-use Prim.Native.Nat.{ℕ, _≤_, _<_}
+use Prim.Native.Nat.{ℕ}
 use mathlib.Core.Path.{_≡_, refl, sym, ap, _∙_}
 use mathlib.Core.Logic.{_⊎_, inl, inr}
-use mathlib.Core.Bool.{Bool, true, false, _||_}
+use mathlib.Core.Bool.{true}
 use mathlib.Core.Option.{Option, none, some}
 use mathlib.Core.List.{List}
 use native.Mathlib.Omega.{arith}
 use borrow.Author.Tests.{le-ltb}
-use lib.Dec.{ltb}
 use lib.ListN.{length, take, drop}
 use lib.Seq.{take-at, drop-at}
 use Rattle.rules.specs.Lists.{any, first, In}
@@ -193,16 +192,3 @@ only-an-order-is-written ps result = record { kept = kept (startOrder ps (length
     written ws e =
         let eight : length ws ≡ 8 = order-is-order ps (length result) ws e .0 in
         rw e (take-at ws (drop 8 result) 8 eight, drop-at ws (drop 8 result) 8 eight)
-
--- ---- the numbers in an answer
-
-pub circle-small : (ps : Pairs) (lent p : ℕ) → startOrder ps lent ≡ circle p → p < 8
-circle-small ps lent p e = smallest-of (onCircle (precedes ps)) 0 8 p (a-circle ps lent p e .smallest) .below
-
-pub refusal-small : (ps : Pairs) (lent n : ℕ) → startOrder ps lent ≡ refused n → n ≤ 16
-refusal-small ps lent n e = go (ltb 64 (length ps) || ltb lent 8) (any above7 ps) refl refl (applies-first (refusals ps lent) n (first-order-refusal-decides ps lent n .0 e))
-  where
-    go : (many above : Bool) → (ltb 64 (length ps) || ltb lent 8) ≡ many → any above7 ps ≡ above → firstThatApplies (refusals ps lent) ≡ some n → n ≤ 16
-    go true above h k f = let q : some 15 ≡ some n = rw h at f in let same : 15 ≡ n = cc in omega arith
-    go false true h k f = let q : some 16 ≡ some n = rw (h, k) at f in let same : 16 ≡ n = cc in omega arith
-    go false false h k f = let q : none ≡ some n = rw (h, k) at f in let z : _≡_ {A = ℕ} 0 1 = cc in absurd (omega arith)

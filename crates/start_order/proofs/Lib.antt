@@ -4,6 +4,7 @@ pub mod Places
 pub mod Circles
 pub mod Orders
 pub mod Claims
+pub mod Answered
 pub mod Outcomes
 pub mod Sets
 pub mod Turns

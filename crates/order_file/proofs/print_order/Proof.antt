@@ -8,9 +8,10 @@ use lib.ListN.{length}
 use Rattle.numbers.specs.Written.{Written}
 use Rattle.numbers.proofs.Keys.{refusal-short}
 use Rattle.start_order.specs.Call.{Outcome, ordered, circle, refused}
+use Rattle.start_order.proofs.Answered.{was-ordered, was-circle, was-refused, Bounded}
 use Rattle.order_file.specs.File.{readFile}
 use Rattle.order_file.specs.Printed.{outputOf}
-use Rattle.order_file.proofs.Outcomes.{Bounded, file-bounded, was-ordered, was-circle, was-refused}
+use Rattle.order_file.proofs.Outcomes.{file-bounded}
 use Rattle.order_file.proofs.Texts.{order-short, circle-short}
 use Rattle.order_file.proofs.print_order.Statement.{statement}
 use Rattle.order_file.proofs.print_order.Tie as tie
