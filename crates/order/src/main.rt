@@ -4,6 +4,6 @@ fn main() {
     let mut input = [0u8; 4097];
     let mut out = [0u8; 22];
     let n = io::read_full(0, &mut input);
-    let k = order_file::print_order(&input[..n], &mut out);
+    let k = order_print::print_order(&input[..n], &mut out);
     io::write_all(1, &out[..k]);
 }

@@ -3,4 +3,3 @@ pub mod Files
 pub mod Kept
 pub mod Outcomes
 pub mod Comes
-pub mod Texts

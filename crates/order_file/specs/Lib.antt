@@ -1,4 +1,3 @@
 pub mod File
-pub mod Printed
 pub mod Claims
 pub mod Answers

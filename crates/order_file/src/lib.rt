@@ -1,16 +1,14 @@
-// A file of pairs: the pairs of its lines, what they come to, and what is printed of it.
+// Pairs from a file: the pairs of its lines, and what they come to.
 use numbers::Beginning;
 use numbers::Natural;
 use start_order::Start;
 ghost use mathlib.Core.Path.{_≡_};
-ghost use mathlib.Core.List.{[], _∷_, _++_};
-ghost use Prim.Native.Nat.{_+_, _≤_};
+ghost use mathlib.Core.List.{[]};
+ghost use Prim.Native.Nat.{_≤_};
 ghost use lib.ListN.{length, drop};
 ghost use Rattle.numbers.specs.Parts.{parts};
-ghost use Rattle.numbers.specs.Written.{Written};
 ghost use Rattle.start_order.specs.Answers.{Settled};
 ghost use Rattle.order_file.specs.File.{readPair, readPairs, readFile};
-ghost use Rattle.order_file.specs.Printed.{partiesText, orderText, circleText, output};
 ghost use Rattle.order_file.specs.Answers.{partyIn, lineIs, ReadAs};
 
 // The pair of a line, as its word.
@@ -82,7 +80,7 @@ fn read_pairs(file: &[u8], from: usize, words: &mut [u64]) -> Reading
 }
 
 // O6, O7: what the file comes to, with the order in the eight words.
-fn start_by(file: &[u8], places: &mut [u64]) -> Start
+pub fn start_by(file: &[u8], places: &mut [u64]) -> Start
     requires { ⌜ length (now places) ≡ 8 ⌝ }
     ensures { λ r. ⌜ Settled (readFile (now (file .entry))) r (now (places .entry)) (now (places .exit)) ⌝ }
 {
@@ -96,53 +94,4 @@ fn start_by(file: &[u8], places: &mut [u64]) -> Start
         return Start::Refused(11);
     };
     start_order::start_order(&words[..n], places)
-}
-
-// O8
-fn render_parties(parties: &[u64], out: &mut [u8], at: usize) -> usize
-    requires { ⌜ at + length (partiesText (now parties)) ≤ length (now out) ⌝ }
-    ensures { λ r. ⌜ Written (now (out .entry)) at (partiesText (now (parties .entry))) (now (out .exit)) r ⌝ }
-{
-    let mut end = at;
-    let mut i = 0;
-    while i < parties.len() {
-        let next = numbers::place(b" ", out, end);
-        end = numbers::render_decimal(parties[i], out, next);
-        i += 1;
-    }
-    end
-}
-
-// O8
-fn render_order(places: &[u64], out: &mut [u8]) -> usize
-    requires { ⌜ length (orderText (now places)) ≤ length (now out) ⌝ }
-    ensures { λ r. ⌜ Written (now (out .entry)) 0 (orderText (now (places .entry))) (now (out .exit)) r ⌝ }
-{
-    let a = numbers::place(b"order", out, 0);
-    let b = render_parties(places, out, a);
-    numbers::place(b"\n", out, b)
-}
-
-// O8
-fn render_circle(p: u32, out: &mut [u8]) -> usize
-    requires { ⌜ length (circleText p) ≤ length (now out) ⌝ }
-    ensures { λ r. ⌜ Written (now (out .entry)) 0 (circleText p) (now (out .exit)) r ⌝ }
-{
-    let a = numbers::place(b"circle ", out, 0);
-    let b = numbers::render_decimal(p as u64, out, a);
-    numbers::place(b"\n", out, b)
-}
-
-// O8: the longest line is an order's, of 22 bytes.
-pub fn print_order(file: &[u8], out: &mut [u8]) -> usize
-    requires { ⌜ 22 ≤ length (now out) ⌝ }
-    ensures { λ r. ⌜ Written (now (out .entry)) 0 (output (now (file .entry))) (now (out .exit)) r ⌝ }
-{
-    let mut places = [0u64; 8];
-    let start = start_by(file, &mut places);
-    match start {
-        Start::Order => render_order(&places, out),
-        Start::Circle(p) => render_circle(p, out),
-        Start::Refused(n) => numbers::render_refusal(n, out),
-    }
 }

@@ -10,7 +10,7 @@ use lib.Seq.{drop-cons}
 use Rattle.rules.specs.Lists.{In}
 use Rattle.numbers.specs.Numbers.{decimal}
 use Rattle.numbers.proofs.Decimal.{decimal-small}
-use Rattle.order_file.specs.Printed.{partiesText, orderText, circleText}
+use Rattle.order_print.specs.Printed.{partiesText, orderText, circleText}
 
 -- ---- party by party
 

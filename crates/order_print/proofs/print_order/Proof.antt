@@ -9,12 +9,12 @@ use Rattle.numbers.specs.Written.{Written}
 use Rattle.numbers.proofs.Keys.{refusal-short}
 use Rattle.start_order.specs.Call.{Outcome, ordered, circle, refused}
 use Rattle.start_order.proofs.Answered.{was-ordered, was-circle, was-refused, Bounded}
 use Rattle.order_file.specs.File.{readFile}
-use Rattle.order_file.specs.Printed.{outputOf}
+use Rattle.order_print.specs.Printed.{outputOf}
 use Rattle.order_file.proofs.Outcomes.{file-bounded}
-use Rattle.order_file.proofs.Texts.{order-short, circle-short}
-use Rattle.order_file.proofs.print_order.Statement.{statement}
-use Rattle.order_file.proofs.print_order.Tie as tie
+use Rattle.order_print.proofs.Texts.{order-short, circle-short}
+use Rattle.order_print.proofs.print_order.Statement.{statement}
+use Rattle.order_print.proofs.print_order.Tie as tie
 
 -- the places of the walk, each by its way to the place before it: `a-b` goes from `a` back to `b`; `to-a` is where the call of `a` begins
 abbrev settled-start : tie.After-start-by → tie.Start

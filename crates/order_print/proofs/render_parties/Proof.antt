@@ -6,10 +6,10 @@ use borrow.Author.Needs.{needs}
 use lib.ListN.{length, getD, drop}
 use Rattle.numbers.specs.Numbers.{decimal}
 use Rattle.numbers.proofs.Placed.{Unfinished, begun, part-room, part-done, finished}
-use Rattle.order_file.specs.Printed.{partiesText}
-use Rattle.order_file.proofs.Texts.{one-party, no-parties}
-use Rattle.order_file.proofs.render_parties.Statement.{statement}
-use Rattle.order_file.proofs.render_parties.Tie as tie
+use Rattle.order_print.specs.Printed.{partiesText}
+use Rattle.order_print.proofs.Texts.{one-party, no-parties}
+use Rattle.order_print.proofs.render_parties.Statement.{statement}
+use Rattle.order_print.proofs.render_parties.Tie as tie
 
 abbrev Inv-loop : tie.InvT-loop
 Inv-loop parties out₀ at end₀ i₀ t7 out end i =
