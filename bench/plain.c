@@ -661,3 +661,148 @@ uint32_t plain_read_roster(const uint8_t *restrict file, uint64_t len, uint64_t 
     memcpy(roster, parts, sizeof parts);
     return 0;
 }
+
+/* 6. A start order. Row b is a byte with a bit for each party that comes before party b. They are a word, or two halves of four. */
+
+enum { PARTIES = 8, MOST_PAIRS = 64, IN_PART = sizeof(part), ROW_PARTS = PARTIES / IN_PART };
+#define EACH(byte) ((part)0x0101010101010101u * (byte)) /* that in every row */
+static const uint8_t bit[PARTIES] = {1, 2, 4, 8, 16, 32, 64, 128};
+union rows {
+    part four[ROW_PARTS];
+    uint8_t row[PARTIES + 1]; /* the last is 0 and ends a search */
+};
+#if defined __thumb__ && !defined __thumb2__
+#define STEP NOINLINE /* so that each step has all of the lower eight registers */
+#else
+#define STEP INLINE
+#endif
+
+/* The answer for a circle, by the parties that are left. Party by party, whoever waits for it also waits for all that it waits for.
+   In the end those who lie on a circle, and no others, wait for themselves. */
+NOINLINE uint32_t circle(const union rows *rows, uint8_t left)
+{
+    part four[ROW_PARTS];
+#pragma GCC unroll 2
+    for (int i = 0; i < ROW_PARTS; i++) four[i] = rows->four[i] & EACH(left);
+#pragma GCC unroll 8
+    for (int p = 0; p < PARTIES; p++) {
+        part row = (uint8_t)(four[p / IN_PART] >> p % IN_PART * 8);
+#pragma GCC unroll 2
+        for (int i = 0; i < ROW_PARTS; i++) four[i] |= (four[i] >> p & EACH(1)) * row;
+    }
+#pragma GCC unroll 8
+    for (uint32_t p = 0; p < PARTIES - 1; p++)
+        if (four[p / IN_PART] >> (p % IN_PART * 8 + p) & 1) return p + 1;
+    return PARTIES;
+}
+
+/* Places the parties and writes their order; the answer is 0, or that for a circle. */
+#if UINTPTR_MAX > UINT32_MAX
+INLINE uint32_t place(union rows *rows, uint64_t *restrict result)
+{
+#define EIGHT(DO) {DO(0), DO(1), DO(2), DO(3), DO(4), DO(5), DO(6), DO(7)}
+#define FOR_NOBODY(p) EACH(1) << p
+#define BUT_ITSELF(p) ~(1ull << 9 * p)
+    static const uint64_t for_nobody[PARTIES] = EIGHT(FOR_NOBODY), but_itself[PARTIES] = EIGHT(BUT_ITSELF);
+    uint64_t free = ~rows->four[0], at[PARTIES]; /* a byte of 255 is a party that waits for nobody */
+#pragma GCC unroll 8
+    for (int i = 0; i < PARTIES; i++) {
+        uint64_t tops = ~(free + EACH(1)) & free & EACH(128); /* the lowest is the top bit of the first such byte */
+        if (!tops) return circle(rows, 255);
+        at[i] = (uint64_t)__builtin_ctzll(tops); /* 8 * p + 7 */
+        free |= *(const uint64_t *)((const char *)for_nobody + at[i] - 7);
+        free &= *(const uint64_t *)((const char *)but_itself + at[i] - 7); /* so it isn't placed again */
+    }
+    for (int i = 0; i < PARTIES; i++) result[i] = at[i] / 8;
+    return 0;
+}
+#else
+/* The smallest party that waits for none of those who are left, or PARTIES. For Cortex-M4 each byte of `left` has them. */
+#ifdef __thumb2__
+#define TOPS(four) (((four) - EACH(1)) & ~(four) & EACH(128)) /* the lowest is the top bit of the first byte of 0 */
+INLINE uint32_t first_free(const uint8_t *row, uint32_t left)
+{
+    const uint32_t *four = __builtin_assume_aligned(row, 4);
+    uint32_t tops = TOPS(four[0] & left);
+    if (tops) return (uint32_t)__builtin_ctz(tops) / 8;
+    tops = TOPS(four[1] & left);
+    return tops ? 4 + (uint32_t)__builtin_ctz(tops) / 8 : PARTIES;
+}
+#define TAKE_OUT(p) do { left &= ~(ones << p); HIDE(left); } while (0)
+#else
+INLINE uint32_t first_free(const uint8_t *row, uint32_t left)
+{
+    uint32_t p = 0;
+    while (row[p] & left) p++;
+    return p;
+}
+#define TAKE_OUT(p) (left -= bits[p])
+#endif
+
+STEP uint32_t place(union rows *rows, uint64_t *restrict result)
+{
+    uint8_t order[PARTIES], *row = rows->row;
+    const uint8_t *bits = bit;
+    uint32_t left = EACH(255), ones = EACH(1);
+    HIDE(row);
+    HIDE(bits);
+    HIDE(ones);
+#pragma GCC unroll 8
+    for (int i = 0; i < PARTIES; i++) {
+        uint32_t p = first_free(row, left);
+        if (p == PARTIES) return circle(rows, (uint8_t)left);
+        TAKE_OUT(p);
+        order[i] = (uint8_t)p;
+        row[p] = 255; /* so it isn't placed again */
+    }
+#pragma GCC unroll 8
+    for (int i = 0; i < PARTIES; i++) {
+        *result++ = order[i];
+        HIDE(result);
+    }
+    return 0;
+}
+#endif
+
+#if UINTPTR_MAX > UINT32_MAX
+#define GATHER_PAIR { all |= *p++; }
+#define ABOVE_7 ~(7ull << 32 | 7)
+/* two loads, rather than one and a shift */
+INLINE uint32_t half(const uint64_t *p, int i) { uint32_t h; memcpy(&h, (const char *)p + 4 * i, 4); return h; }
+#define BEFORE(w) half(&(w), 1)
+#define AFTER(w) half(&(w), 0)
+#else
+#define GATHER_PAIR { uint64_t w = *p++; HIDE(p); HERE(w); all |= high(w); all |= low(w); HERE(all); }
+#define ABOVE_7 ~7u
+#define BEFORE(w) high(w)
+#define AFTER(w) low(w)
+#endif
+STEP int sound_pairs(const uint64_t *p, uint32_t n)
+{
+    part all = 0;
+    for (; n % 4; n--) GATHER_PAIR
+    for (; n; n -= 4) { GATHER_PAIR GATHER_PAIR GATHER_PAIR GATHER_PAIR }
+    return !(all & ABOVE_7);
+}
+
+STEP void fill(union rows *rows, const uint64_t *p, uint32_t n)
+{
+    uint8_t *row = rows->row;
+    const uint8_t *bits = bit;
+    HIDE(row);
+    HIDE(bits);
+#define ADD_PAIR(i) row[AFTER(p[i])] |= bits[BEFORE(p[i])];
+    for (; n % 4; n--, p++) ADD_PAIR(0)
+    for (; n; n -= 4, p += 4) { ADD_PAIR(0) ADD_PAIR(1) ADD_PAIR(2) ADD_PAIR(3) }
+}
+
+uint32_t plain_start_order(const uint64_t *restrict pairs, uint64_t n, uint64_t *restrict result, uint64_t len)
+{
+    if (n > MOST_PAIRS || len < PARTIES) return 115;
+    if (!sound_pairs(pairs, low(n))) return 116;
+    union rows rows;
+    for (int i = 0; i < ROW_PARTS; i++) rows.four[i] = 0;
+    rows.row[PARTIES] = 0;
+    fill(&rows, pairs, low(n));
+    return place(&rows, result);
+}

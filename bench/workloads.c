@@ -23,7 +23,7 @@ enum { WORDS = 1809, ROWS = 128, ROW = 14, PAINT = 0xA5 };
 
 static uint64_t space[WORDS], kept[WORDS], roster[16], result[8], given[16];
 static uint8_t file[SPACE_ROSTER_FILE_BYTES];
-static uint64_t file_len;
+static uint64_t file_len, pairs[SPACE_MOST_PAIRS + 1], pair_count;
 static const uint64_t one[1] = {5}, any1[1] = {ANY}, any8[8] = {ANY, ANY, ANY, ANY, ANY, ANY, ANY, ANY};
 static const uint64_t last[8] = {1, 2, 3, 4, 5, 6, 7, 227}, entry[8] = {1, 2, 3, 4, 5, 6, 7, 8};
 static const uint64_t unheld[8] = {1, 2, 3, 4, 5, 6, 7, PARTITION + 40};
@@ -72,13 +72,15 @@ static uint32_t look_disjoint(void) { return space_look(space, WORDS, 0, DISJOIN
 static uint32_t take_by_shared(void) { return space_take(space, WORDS, 0, SHARING, 0, any8, 8, result, 8); }
 static uint32_t put_under_sets(void) { return space_put(space, WORDS, 7, SHARING, 0, UPPER, 0, entry, 8); }
 static uint32_t read_roster(void) { return space_read_roster(file, file_len, given, 16); }
+static uint32_t start_order(void) { return space_start_order(pairs, pair_count, result, 8); }
 
 /* live entries before the round, how their last messages go or what the last entry carries, and the sum of the answers; for the reading
-   of a roster the card */
+   of a roster the card, for a start order the pairs */
 static const struct workload {
     char letter;
     uint32_t live;
-    enum { RISING, FALLING, NAMES, SETS, TWELVE, ALL, LONGEST, UNREADABLE, DIGITS } order;
+    enum { RISING, FALLING, NAMES, SETS, TWELVE, ALL, LONGEST, UNREADABLE, DIGITS, FREE, PLAN, UPWARD, DOWNWARD, TWICE, ROUND, LATE_ROUND,
+           PARTY_8, PAIRS_65 } order;
     uint32_t sum, (*round)(void);
 } workloads[] = {
     {'.', 0, RISING, 0, nothing},
@@ -117,6 +119,15 @@ static const struct workload {
     {'G', 127, RISING, 113, put_no_set},
     {'H', 127, RISING, 114, put_no_key},
     {'I', 127, RISING, 107, put_no_field},
+    {'J', 0, FREE, 0, start_order},
+    {'K', 0, PLAN, 0, start_order},
+    {'L', 0, UPWARD, 0, start_order},
+    {'M', 0, DOWNWARD, 0, start_order},
+    {'N', 0, TWICE, 0, start_order},
+    {'O', 0, ROUND, 1 + 0, start_order},
+    {'P', 0, LATE_ROUND, 1 + 6, start_order},
+    {'Q', 0, PARTY_8, 116, start_order},
+    {'R', 0, PAIRS_65, 115, start_order},
 };
 enum { WORKLOADS = sizeof workloads / sizeof *workloads };
 
@@ -154,6 +165,31 @@ static void prepare_card(const struct workload *w)
         add("0 p 1\n0 k 7\n0 k -7\n1 p 1\n1 k -7\n1 p 10\n1 k 3\n2 p 1\n2 k -7\n2 p 11\n2 k 31\n3 p 63\n");
 }
 
+static void add_pair(uint32_t a, uint32_t b) { pairs[pair_count++] = space_before(a, b); }
+
+/* All pairs of two parties, the lower or the higher first. Where there are to be more, some of them again. */
+static void add_all_pairs(int upward, uint64_t count)
+{
+    for (uint32_t a = 0; a < 8; a++)
+        for (uint32_t b = a + 1; b < 8; b++) add_pair(upward ? a : b, upward ? b : a);
+    for (uint32_t i = 0; pair_count < count; i++) pairs[pair_count++] = pairs[i];
+}
+
+/* The pairs of a workload: none; or six, of a station; or 28, after which the order is 0 to 7, or 7 to 0; or 64, the first 28 again and
+   again; or a circle of all eight; or one of 6 and 7, with the 27 other pairs upward; or 64 of which the last has a party 8; or 65. */
+static void prepare_pairs(const struct workload *w)
+{
+    pair_count = 0;
+    if (w->order == PLAN) add_pair(0, 1), add_pair(0, 2), add_pair(1, 3), add_pair(2, 3), add_pair(5, 0), add_pair(5, 4);
+    else if (w->order == UPWARD || w->order == DOWNWARD) add_all_pairs(w->order == UPWARD, 0);
+    else if (w->order == TWICE || w->order == PARTY_8) add_all_pairs(1, SPACE_MOST_PAIRS);
+    else if (w->order == ROUND)
+        for (uint32_t a = 0; a < 8; a++) add_pair(a, (a + 1) % 8);
+    else if (w->order == LATE_ROUND) add_all_pairs(1, 0), add_pair(7, 6);
+    else if (w->order == PAIRS_65) add_all_pairs(1, SPACE_MOST_PAIRS + 1);
+    if (w->order == PARTY_8) pairs[pair_count - 1] = space_before(7, 8);
+}
+
 /* The last row with eight names that nobody holds, in a partition of its own. */
 static void prepare_names(uint64_t *row)
 {
@@ -167,6 +203,7 @@ static void prepare_names(uint64_t *row)
 static void prepare(const struct workload *w)
 {
     prepare_card(w);
+    prepare_pairs(w);
     memset(kept, 0, sizeof kept);
     kept[0] = w->live;
     for (uint32_t i = 0; i < 8; i++) {

@@ -6,7 +6,7 @@ function in its crate, a file. Every id that a comment of the sources cites is a
 import pathlib
 import re
 
-ID = r"[NFEMLSCRAGTD]\d{1,2}"
+ID = r"[NFEMLSCRAGTDO]\d{1,2}"
 
 
 def table_ids(text):

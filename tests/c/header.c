@@ -162,6 +162,15 @@ static void show_answer(uint32_t answer)
     printf("answer %u: refusal %u, %s\n", (unsigned)answer, (unsigned)space_refusal(answer), space_meaning(answer));
 }
 
+/* The word of each pair of parties that there are or aren't. */
+static void show_pairs(void)
+{
+    const uint32_t parties[6] = {0, 1, 7, 8, UINT32_C(1) << 31, UINT32_MAX};
+    for (int i = 0; i < 6; i++)
+        for (int j = 0; j < 6; j++)
+            printf("space_before %u %u %llu\n", (unsigned)parties[i], (unsigned)parties[j], (number)space_before(parties[i], parties[j]));
+}
+
 /* All names for party 0, one partition and one key more for each party, and what open makes of it. */
 static void open_for_all(void)
 {
@@ -222,5 +231,7 @@ int main(void)
     show_gifts(7, UINT32_C(1) << 31, INT32_MIN);
     for (uint32_t answer = 0; answer <= 120; answer++) show_answer(answer);
     show_answer(UINT32_MAX);
+    show_pairs();
+    printf("SPACE_MOST_PAIRS %d\n", SPACE_MOST_PAIRS);
     return 0;
 }

@@ -60,6 +60,13 @@ extern "C" {
         roster: *mut u64,
         roster_len: usize,
     ) -> u32;
+
+    fn space_start_order(
+        pairs: *const u64,
+        pair_count: usize,
+        result: *mut u64,
+        result_len: usize,
+    ) -> u32;
 }
 
 /// Looks at a space that is lent only to be read. Sound as the calls below are.
@@ -84,6 +91,18 @@ unsafe fn look_at(space: *const u64, space_len: usize, query: Query, result: &mu
 /// Reads a roster file into the lent words. Sound as the calls below are.
 pub fn read_roster(file: &[u8], roster: &mut [u64]) -> u32 {
     unsafe { space_read_roster(file.as_ptr(), file.len(), roster.as_mut_ptr(), roster.len()) }
+}
+
+/// Puts the parties of these pairs in order. Sound as the calls below are.
+pub fn start_order(pairs: &[u64], result: &mut [u64]) -> u32 {
+    unsafe {
+        space_start_order(
+            pairs.as_ptr(),
+            pairs.len(),
+            result.as_mut_ptr(),
+            result.len(),
+        )
+    }
 }
 
 /// The calls of `libspace_c.a`.

@@ -2,11 +2,12 @@
 //!
 //! Parts are named as arguments: `cases`, `differential` and `isolation` test the linked library,
 //! `console` the program that the variable `CONSOLE` names, `roster` the program that `ROSTER`
-//! names and the linked library's reading of roster files, `variants` the harness itself, and
-//! `reference` does with the reference what the first three do with the library. A part that is
-//! named must be runnable. Without arguments all parts run except those that lack a library or a
-//! program, which are printed as skipped. The library is linked if `SPACE_LIB_DIR` names its
-//! directory when the harness is built.
+//! names and the linked library's reading of roster files, `order` the program that `ORDER` names
+//! and the linked library's start orders, `variants` the harness itself, and `reference` does with
+//! the reference what the first three do with the library. A part that is named must be runnable.
+//! Without arguments all parts run except those that lack a library or a program, which are printed
+//! as skipped. The library is linked if `SPACE_LIB_DIR` names its directory when the harness is
+//! built.
 
 mod bounds;
 mod call;
@@ -15,12 +16,17 @@ mod console;
 mod differential;
 mod duel;
 mod edge;
+mod files;
 mod guarded;
 mod isolation;
 #[cfg(library_linked)]
 mod library;
 mod looks;
 mod missing;
+mod order;
+mod order_files;
+mod order_lists;
+mod order_tally;
 mod pool;
 mod program;
 mod report;
@@ -29,6 +35,7 @@ mod roster;
 mod roster_files;
 mod roster_tally;
 mod rows;
+mod sayings;
 mod scripts;
 mod sets;
 mod singles;
@@ -39,6 +46,7 @@ mod told_apart;
 mod variants;
 
 use looks::Look;
+use order::OrderCall;
 use reference::Reference;
 use report::Report;
 use roster::ReadRoster;
@@ -52,7 +60,7 @@ const TIME_LIMIT: Duration = Duration::from_secs(600);
 #[cfg(not(library_linked))]
 const NO_LIBRARY: &str = "built without SPACE_LIB_DIR, no library is linked";
 
-const PARTS: [&str; 7] = [
+const PARTS: [&str; 8] = [
     "reference",
     "variants",
     "cases",
@@ -60,6 +68,7 @@ const PARTS: [&str; 7] = [
     "isolation",
     "console",
     "roster",
+    "order",
 ];
 
 fn main() -> ExitCode {
@@ -104,6 +113,7 @@ fn run_part(report: &mut Report, part: &str) -> Result<(), &'static str> {
             isolation::check_variants(report);
             console::check_variants(report);
             roster::check_variants(report);
+            order::check_variants(report);
         }
         "cases" => cases::check(report, "library", library()?.as_mut()),
         "differential" => {
@@ -115,9 +125,13 @@ fn run_part(report: &mut Report, part: &str) -> Result<(), &'static str> {
             let program = std::env::var("CONSOLE").map_err(|_| "CONSOLE names no program")?;
             console::compare(report, &program);
         }
-        _ => {
+        "roster" => {
             let program = std::env::var("ROSTER").map_err(|_| "ROSTER names no program")?;
             roster::compare(report, &program, read_roster()?);
+        }
+        _ => {
+            let program = std::env::var("ORDER").map_err(|_| "ORDER names no program")?;
+            order::compare(report, &program, start_order()?);
         }
     }
     Ok(())
@@ -158,6 +172,16 @@ fn read_roster() -> Result<&'static ReadRoster<'static>, &'static str> {
 
 #[cfg(not(library_linked))]
 fn read_roster() -> Result<&'static ReadRoster<'static>, &'static str> {
+    Err(NO_LIBRARY)
+}
+
+#[cfg(library_linked)]
+fn start_order() -> Result<&'static OrderCall<'static>, &'static str> {
+    Ok(&library::start_order)
+}
+
+#[cfg(not(library_linked))]
+fn start_order() -> Result<&'static OrderCall<'static>, &'static str> {
     Err(NO_LIBRARY)
 }
 

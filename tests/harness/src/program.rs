@@ -1,5 +1,6 @@
 //! Runs a program on an input, and tells where its output differs from another.
 
+use crate::files::Sort;
 use std::io::{Read, Write};
 use std::process::{Child, Command, Stdio};
 use std::sync::mpsc;
@@ -11,6 +12,31 @@ const PATIENCE: Duration = Duration::from_secs(20);
 const LONGEST_OUTPUT: u64 = 4 << 20;
 /// How many programs run at the same time in shares.
 const SHARES: usize = 2;
+
+/// A program: what it prints for a file.
+pub type Print<'a> = dyn Fn(&[u8]) -> Result<Vec<u8>, String> + Sync + 'a;
+
+/// Compares what a program prints for each file of a sort with what is due.
+pub fn compare_files(
+    print: &Print,
+    due: fn(&[u8]) -> Vec<u8>,
+    sort: &Sort<Vec<u8>>,
+    seed: u64,
+) -> Result<String, String> {
+    in_shares(sort.count, |number| {
+        let file = sort.made(seed, number);
+        let expected = due(&file);
+        let output = print(&file)?;
+        match output == expected {
+            true => Ok(()),
+            false => Err(format!(
+                "seed {seed}, file {number}: {}",
+                difference_text(&file, &output, &expected)
+            )),
+        }
+    })?;
+    Ok(format!("seed {seed}, {} files alike", sort.count))
+}
 
 /// Checks each number below `count`, every second one in another thread. Gives what is wrong with
 /// the lowest number of those that fail.

@@ -1,14 +1,17 @@
 //! Roster files: the program and the linked library's call against the reference.
 
 use crate::edge::{Edge, Side};
-use crate::program::{difference_text, in_shares, run};
+use crate::files::Sort;
+use crate::program::{compare_files, difference_text, in_shares, run, Print};
 use crate::report::Report;
 use crate::rng::Rng;
-use crate::roster_files::{good, sorts, Sort};
-use crate::roster_tally::Tally;
+use crate::roster_files::{good, sorts};
+use crate::roster_tally::{sayings, SAYINGS};
+use crate::sayings::Sayings;
+use crate::variants::caught;
 use reference::roster::ROSTER_NAMES;
 use reference::table::ROSTER_WORDS;
-use reference::{RosterReader, RosterVariant};
+use reference::{RosterReader, RosterVariant, TextSlip};
 use std::collections::BTreeMap;
 
 const SEED: u64 = 7_001;
@@ -26,8 +29,6 @@ const MOST_LENT: usize = 20;
 /// No file is longer.
 const LONGEST_MADE: usize = 140_000;
 
-/// A program: what it prints for a file.
-type Print<'a> = dyn Fn(&[u8]) -> Result<Vec<u8>, String> + Sync + 'a;
 /// The call: its answer, with what it did to the words.
 pub type ReadRoster<'a> = dyn Fn(&[u8], &mut [u64]) -> u32 + 'a;
 
@@ -70,8 +71,9 @@ pub fn check_variants(report: &mut Report) {
     let files = made_files();
     let of_printing = RosterVariant::OF_PRINTING;
     let of_words = RosterVariant::OF_WORDS;
-    for variant in RosterVariant::OF_READING
-        .into_iter()
+    let of_text = TextSlip::ALL.map(RosterVariant::Text).into_iter();
+    for variant in of_text
+        .chain(RosterVariant::OF_READING)
         .chain(of_printing)
         .chain(of_words)
     {
@@ -86,18 +88,6 @@ pub fn check_variants(report: &mut Report) {
     }
 }
 
-/// How many files were alike before a difference, wherever one was looked for.
-fn caught(found: &[(&str, Option<usize>)]) -> Result<String, String> {
-    let texts: Result<Vec<String>, String> = found
-        .iter()
-        .map(|(what, alike)| match alike {
-            Some(files) => Ok(format!("{what} after {files} files alike")),
-            None => Err(format!("{what} not caught")),
-        })
-        .collect();
-    texts.map(|texts| texts.join(", "))
-}
-
 /// A file, what is printed for it, and what makes the words that are lent with it.
 struct Made {
     file: Vec<u8>,
@@ -109,8 +99,8 @@ struct Made {
 fn made_files() -> Vec<Made> {
     let mut all = Vec::new();
     for (index, sort) in sorts().iter().enumerate() {
-        all.extend((0..sort.files).map(|number| {
-            let file = sort.file(seed(index), number);
+        all.extend((0..sort.count).map(|number| {
+            let file = sort.made(seed(index), number);
             Made {
                 printed: reference::roster(&file),
                 file,
@@ -156,39 +146,27 @@ fn card_printed(print: &Print) -> Result<String, String> {
     }
 }
 
-fn compare_program(report: &mut Report, sorts: &[Sort], print: &Print) {
-    let mut tally = Tally::default();
+fn compare_program(report: &mut Report, sorts: &[Sort<Vec<u8>>], print: &Print) {
+    let mut tally = Sayings::default();
     for (index, sort) in sorts.iter().enumerate() {
         let outcome = compare_texts(print, sort, seed(index), &mut tally);
         report.check(&format!("roster, program: {}", sort.name), outcome);
     }
-    let reached = tally.finish(FEWEST_RUNS);
+    let reached = tally.finish(SAYINGS, "files", FEWEST_RUNS);
     report.check("roster, program: what can be said of files", reached);
 }
 
 fn compare_texts(
     print: &Print,
-    sort: &Sort,
+    sort: &Sort<Vec<u8>>,
     seed: u64,
-    tally: &mut Tally,
+    tally: &mut Sayings,
 ) -> Result<String, String> {
-    in_shares(sort.files, |number| {
-        compare_text(print, &sort.file(seed, number))
-            .map_err(|text| format!("seed {seed}, file {number}: {text}"))
-    })?;
-    for number in 0..sort.files {
-        tally.note(&sort.file(seed, number));
+    let alike = compare_files(print, reference::roster, sort, seed)?;
+    for number in 0..sort.count {
+        tally.note(sayings(&sort.made(seed, number)));
     }
-    Ok(format!("seed {seed}, {} files alike", sort.files))
-}
-
-fn compare_text(print: &Print, file: &[u8]) -> Result<(), String> {
-    let expected = reference::roster(file);
-    let output = print(file)?;
-    match output == expected {
-        true => Ok(()),
-        false => Err(difference_text(file, &output, &expected)),
-    }
+    Ok(alike)
 }
 
 /// What is printed for a good file is a good file, for which the same is printed.
@@ -219,30 +197,30 @@ fn card_read(call: &ReadRoster) -> Result<String, String> {
     }
 }
 
-fn compare_library(report: &mut Report, sorts: &[Sort], call: &ReadRoster) {
-    let mut tally = Tally::default();
+fn compare_library(report: &mut Report, sorts: &[Sort<Vec<u8>>], call: &ReadRoster) {
+    let mut tally = Sayings::default();
     let mut duel = WordsDuel::new(call);
     for (index, sort) in sorts.iter().enumerate() {
         let outcome = compare_calls(&mut duel, sort, index, &mut tally);
         report.check(&format!("roster, library: {}", sort.name), outcome);
     }
-    let reached = tally.finish(FEWEST_CALLS);
+    let reached = tally.finish(SAYINGS, "files", FEWEST_CALLS);
     report.check("roster, library: what can be said of files", reached);
     report.check("roster, library: answers", duel.check_answers());
 }
 
 fn compare_calls(
     duel: &mut WordsDuel,
-    sort: &Sort,
+    sort: &Sort<Vec<u8>>,
     index: usize,
-    tally: &mut Tally,
+    tally: &mut Sayings,
 ) -> Result<String, String> {
-    let (seed, files) = (seed(index), ROUNDS * sort.files);
+    let (seed, files) = (seed(index), ROUNDS * sort.count);
     for number in 0..files {
-        let file = sort.file(seed, number);
+        let file = sort.made(seed, number);
         duel.compare(&file, &mut words_rng(index, number))
             .map_err(|text| format!("seed {seed}, file {number}: {text}"))?;
-        tally.note(&file);
+        tally.note(sayings(&file));
     }
     Ok(format!("seed {seed}, {files} files alike"))
 }

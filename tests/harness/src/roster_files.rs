@@ -1,58 +1,29 @@
 //! Roster files: good ones, and ones broken in many ways.
 
+use crate::files::{
+    break_bytes, changed_from, cut_everywhere, ended, inserted_everywhere, power_of_ten,
+    rearranged, short_files, Sort,
+};
 use crate::rng::Rng;
-use crate::scripts::{break_byte, cut};
+use crate::scripts::cut;
 use reference::roster::{all_rights, Right, ROSTER_NAMES};
 
-/// Files of one make.
-pub struct Sort {
-    pub name: &'static str,
-    /// How many there are, or are made once.
-    pub files: usize,
-    make: Make,
-}
-
-enum Make {
-    Listed(Vec<Vec<u8>>),
-    Random(fn(&mut Rng) -> Vec<u8>),
-}
-
-impl Sort {
-    fn listed(name: &'static str, files: Vec<Vec<u8>>) -> Sort {
-        Sort {
-            name,
-            files: files.len(),
-            make: Make::Listed(files),
-        }
-    }
-
-    fn random(name: &'static str, files: usize, make: fn(&mut Rng) -> Vec<u8>) -> Sort {
-        Sort {
-            name,
-            files,
-            make: Make::Random(make),
-        }
-    }
-
-    /// The file of this number. Past `files` a list begins again, and others are made anew.
-    pub fn file(&self, seed: u64, number: usize) -> Vec<u8> {
-        match &self.make {
-            Make::Listed(files) => files[number % files.len()].clone(),
-            Make::Random(make) => make(&mut Rng::new(seed, number as u64)),
-        }
-    }
-}
-
 /// All sorts. Those with the longest files come last.
-pub fn sorts() -> Vec<Sort> {
+pub fn sorts() -> Vec<Sort<Vec<u8>>> {
     vec![
         Sort::listed("every right alone", single_rights()),
         Sort::random("random rights in any order", 2_000, good),
         Sort::random("a card's lines in any order", 300, shuffled_card),
-        Sort::listed("a card cut short everywhere", cut_cards()),
-        Sort::listed("a byte of a card changed", changed_cards()),
-        Sort::listed("a byte put into a card", cards_with_insertion()),
-        Sort::listed("a byte dropped, doubled or exchanged", rearranged_cards()),
+        Sort::listed("a card cut short everywhere", cut_everywhere(&card())),
+        Sort::listed(
+            "a byte of a card changed",
+            changed_from(&card(), 0, &NASTY_BYTES),
+        ),
+        Sort::listed(
+            "a byte put into a card",
+            inserted_everywhere(&card(), &NASTY_BYTES),
+        ),
+        Sort::listed("a byte dropped, doubled or exchanged", rearranged(&card())),
         Sort::listed("bytes 0 to 255 in two lines", lines_with_every_byte()),
         Sort::listed("each nasty item in each place", nasty_item_files()),
         Sort::listed("numbers from -300 to 300", number_files()),
@@ -87,12 +58,6 @@ fn around(line: &str) -> Vec<u8> {
 
 fn card() -> Vec<u8> {
     file_of(&ended(&CARD))
-}
-
-/// The lines with their line feeds.
-fn ended<T: AsRef<str>>(lines: &[T]) -> String {
-    let lines = lines.iter().map(AsRef::as_ref);
-    lines.flat_map(|line| [line, "\n"]).collect()
 }
 
 fn texts(rights: impl IntoIterator<Item = Right>) -> Vec<String> {
@@ -166,65 +131,13 @@ fn shuffled_card(rng: &mut Rng) -> Vec<u8> {
     file_of(&ended(&lines))
 }
 
-fn cut_cards() -> Vec<Vec<u8>> {
-    let card = card();
-    (0..=card.len()).map(|end| card[..end].to_vec()).collect()
-}
-
 /// Bytes that mean something in a card or elsewhere, and their neighbours.
 const NASTY_BYTES: [u8; 35] = *b" \t\r\n\0\x0B\x0C\x1A+-,./0135689:ejkpqPK_\"\x7F\x80\xA0\xB2\xFF";
 
-fn changed_cards() -> Vec<Vec<u8>> {
-    let mut files = Vec::new();
-    for place in 0..card().len() {
-        for byte in NASTY_BYTES {
-            let mut file = card();
-            file[place] = byte;
-            files.push(file);
-        }
-    }
-    files
-}
-
-fn cards_with_insertion() -> Vec<Vec<u8>> {
-    let mut files = Vec::new();
-    for place in 0..=card().len() {
-        for byte in NASTY_BYTES {
-            let mut file = card();
-            file.insert(place, byte);
-            files.push(file);
-        }
-    }
-    files
-}
-
-/// Each byte once dropped, once doubled, and once exchanged with the next.
-fn rearranged_cards() -> Vec<Vec<u8>> {
-    let mut files = Vec::new();
-    for place in 0..card().len() {
-        let mut dropped = card();
-        let byte = dropped.remove(place);
-        let mut doubled = card();
-        doubled.insert(place, byte);
-        let mut exchanged = card();
-        let next = (place + 1).min(exchanged.len() - 1);
-        exchanged.swap(place, next);
-        files.extend([dropped, doubled, exchanged]);
-    }
-    files
-}
-
 fn lines_with_every_byte() -> Vec<Vec<u8>> {
     let file = file_of("1 p 5\n1 k -4\n");
-    let mut files = Vec::new();
-    for place in ROSTER_NAMES.len() + 1..file.len() {
-        for byte in 0..=255 {
-            let mut changed = file.clone();
-            changed[place] = byte;
-            files.push(changed);
-        }
-    }
-    files
+    let bytes: Vec<u8> = (0..=255).collect();
+    changed_from(&file, ROSTER_NAMES.len() + 1, &bytes)
 }
 
 /// Items at the ends of what is readable and in range, and past them.
@@ -345,10 +258,6 @@ fn nasty_items() -> Vec<String> {
     let fixed = NASTY_ITEMS.iter().map(|item| item.to_string());
     let minus: Vec<String> = numbers.iter().map(|number| format!("-{number}")).collect();
     fixed.chain(numbers).chain(minus).chain(zeros).collect()
-}
-
-fn power_of_ten(zeros: usize) -> String {
-    "1".to_string() + &"0".repeat(zeros)
 }
 
 fn nasty_item_files() -> Vec<Vec<u8>> {
@@ -521,20 +430,10 @@ fn names_files() -> Vec<Vec<u8>> {
     files
 }
 
-fn short_files() -> Vec<Vec<u8>> {
-    let one = (0..=255).map(|byte| vec![byte]);
-    [Vec::new()].into_iter().chain(one).collect()
-}
-
 fn with_broken_byte(rng: &mut Rng) -> Vec<u8> {
     let mut file = good(rng);
-    loop {
-        let byte = rng.word() as u8;
-        break_byte(rng, &mut file, byte);
-        if rng.percent(70) {
-            return file;
-        }
-    }
+    break_bytes(rng, &mut file);
+    file
 }
 
 fn with_nasty_items(rng: &mut Rng) -> Vec<u8> {

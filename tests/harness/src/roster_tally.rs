@@ -1,11 +1,11 @@
-//! What can be said of roster files, and how often each was said.
+//! What can be said of roster files.
 
-use reference::roster::{Fault, Name, Right, LONGEST_FILE};
-use reference::{RosterReader, RosterVariant};
-use std::collections::BTreeMap;
+use reference::lines::Fault;
+use reference::roster::{Name, Right, LONGEST_FILE};
+use reference::{RosterReader, RosterVariant, TextSlip};
 
 /// What can be said of a file; each must come up.
-const SAYINGS: [&str; 23] = [
+pub const SAYINGS: [&str; 23] = [
     "accepted, no rights",
     "accepted, rights",
     "accepted, all rights",
@@ -31,42 +31,8 @@ const SAYINGS: [&str; 23] = [
     "no12, in range in 32 bits",
 ];
 
-/// How often each was said.
-#[derive(Default)]
-pub struct Tally {
-    said: BTreeMap<&'static str, u64>,
-    files: u64,
-}
-
-impl Tally {
-    pub fn note(&mut self, file: &[u8]) {
-        self.files += 1;
-        for saying in sayings(file) {
-            *self.said.entry(saying).or_default() += 1;
-        }
-    }
-
-    /// Prints the counts. Fails if one is 0 or there are fewer files than these.
-    pub fn finish(&self, fewest: u64) -> Result<String, String> {
-        for (saying, count) in &self.said {
-            println!("  {saying}: {count}");
-        }
-        let missing: Vec<&str> = SAYINGS
-            .into_iter()
-            .filter(|saying| !self.said.contains_key(saying))
-            .collect();
-        if !missing.is_empty() {
-            return Err(format!("never came up: {}", missing.join(", ")));
-        }
-        match self.files >= fewest {
-            true => Ok(format!("{} files, each came up", self.files)),
-            false => Err(format!("only {} files", self.files)),
-        }
-    }
-}
-
 /// All that can be said of a file.
-fn sayings(file: &[u8]) -> Vec<&'static str> {
+pub fn sayings(file: &[u8]) -> Vec<&'static str> {
     match RosterReader::correct().read(file) {
         Ok(rights) => sayings_of_accepted(file, &rights),
         Err(fault) => sayings_of_refused(file, fault),
@@ -118,6 +84,7 @@ fn sayings_of_refused(file: &[u8], fault: Fault) -> Vec<&'static str> {
         Fault::Party => "no12, party",
         Fault::Partition => "no12, partition",
         Fault::Key => "no12, key",
+        Fault::PairCount | Fault::ResultWords | Fault::PairParty => "a fault of pairs",
     }];
     if file.len() == LONGEST_FILE + 1 {
         said.push("no10, 16385 bytes");
@@ -167,13 +134,13 @@ fn sayings_of_out_of_range(file: &[u8]) -> Vec<&'static str> {
     if has_line_of(file, 11) {
         said.push("no12, with an unreadable line after it");
     }
-    if taken(file, RosterVariant::LongNumberIsUnreadable) == Some(11) {
+    if taken(file, RosterVariant::Text(TextSlip::LongNumberIsUnreadable)) == Some(11) {
         said.push("no12, more than ten digits");
     }
-    if taken(file, RosterVariant::NumberWrapsAt64).is_none() {
+    if taken(file, RosterVariant::Text(TextSlip::NumberWrapsAt64)).is_none() {
         said.push("no12, in range in 64 bits");
     }
-    if taken(file, RosterVariant::NumberWrapsAt32).is_none() {
+    if taken(file, RosterVariant::Text(TextSlip::NumberWrapsAt32)).is_none() {
         said.push("no12, in range in 32 bits");
     }
     said

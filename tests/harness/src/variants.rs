@@ -24,3 +24,15 @@ pub fn check(report: &mut Report) {
         report.check(&format!("differential catches {variant:?}"), outcome);
     }
 }
+
+/// How many files or lists were alike before a difference, wherever one was looked for.
+pub fn caught(found: &[(&str, Option<usize>)]) -> Result<String, String> {
+    let texts: Result<Vec<String>, String> = found
+        .iter()
+        .map(|(what, alike)| match alike {
+            Some(number) => Ok(format!("{what} after {number} alike")),
+            None => Err(format!("{what} not caught")),
+        })
+        .collect();
+    texts.map(|texts| texts.join(", "))
+}

@@ -9,7 +9,7 @@ pub enum Answer {
     Found(usize),
     /// Of look, receive and take.
     None,
-    /// With the refusal's number: 1 to 9, 13 or 14 of a call.
+    /// With the refusal's number: 1 to 9, 13 or 14 of a call on a space.
     Refused(u32),
 }
 

@@ -1,5 +1,6 @@
 //! Roster files: read into rights, printed again, and put into the 16 words of a roster.
 
+use crate::lines::{natural, Fault, Format, BEYOND};
 use crate::names::{key_bit, partition_bit, LAST_KEY, LAST_PARTITION, PARTIES};
 use crate::roster_variant::RosterVariant;
 use crate::table::ROSTER_WORDS;
@@ -9,10 +10,13 @@ pub const LONGEST_FILE: usize = 16_384;
 /// The first line of every file that is read, and of what is printed for it.
 pub const ROSTER_NAMES: &str = "party kind name";
 
+const FORMAT: Format = Format {
+    names: ROSTER_NAMES,
+    longest: LONGEST_FILE,
+    items: 3,
+};
 /// The answer to a call that isn't lent 16 words.
 const WRONG_LENGTH: u32 = 109;
-/// Stands for itself and for every number above it: no range reaches as far.
-const BEYOND: u64 = 1_000;
 
 /// What the program prints for a file.
 pub fn roster(input: &[u8]) -> Vec<u8> {
@@ -58,40 +62,6 @@ pub fn all_rights() -> Vec<Right> {
         all.extend(partitions.chain(keys).map(|name| Right { party, name }));
     }
     all
-}
-
-/// Why a file is refused.
-#[derive(Clone, Copy, Debug, PartialEq, Eq)]
-pub enum Fault {
-    /// The file has more than 16,384 bytes.
-    TooLong,
-    /// Something else than the names line and its line feed stands at the start, or nothing.
-    NamesLine,
-    /// The last line doesn't end in a line feed.
-    LineFeed,
-    /// A line isn't three items with one blank between.
-    Items,
-    /// The kind is neither `p` nor `k`.
-    Kind,
-    /// A number can't be read.
-    Number,
-    /// The party is above 7.
-    Party,
-    /// The partition is outside 0 to 63.
-    Partition,
-    /// The key is outside -31 to 31.
-    Key,
-}
-
-impl Fault {
-    /// The number of the refusal.
-    pub fn number(self) -> u32 {
-        match self {
-            Fault::TooLong | Fault::NamesLine => 10,
-            Fault::LineFeed | Fault::Items | Fault::Kind | Fault::Number => 11,
-            Fault::Party | Fault::Partition | Fault::Key => 12,
-        }
-    }
 }
 
 /// What a readable line says; its numbers may be out of range.
@@ -245,29 +215,8 @@ impl RosterReader {
     /// What each line after the names line gives, or its fault. A fault of the whole file comes
     /// before those of its lines.
     pub fn lines(self, file: &[u8]) -> Result<Vec<Result<Right, Fault>>, Fault> {
-        let file = self.variant.cut_slip(file);
-        if file.len() > self.longest_file() {
-            return Err(Fault::TooLong);
-        }
-        let names = format!("{ROSTER_NAMES}\n");
-        let rest = match file.strip_prefix(names.as_bytes()) {
-            Some(rest) => rest,
-            None => self.variant.names_slip(file)?,
-        };
-        Ok(rest
-            .split_inclusive(|byte| *byte == b'\n')
-            .filter_map(|line| self.variant.line_slip(line))
-            .map(|line| self.line(&line))
-            .collect())
-    }
-
-    fn longest_file(self) -> usize {
-        match self.variant {
-            RosterVariant::Refuses16384Bytes => LONGEST_FILE - 1,
-            RosterVariant::Reads16385Bytes => LONGEST_FILE + 1,
-            RosterVariant::FileLengthTestedLast => usize::MAX,
-            _ => LONGEST_FILE,
-        }
+        let lines = FORMAT.lines(file, self.variant.text())?;
+        Ok(lines.iter().map(|line| self.line(line)).collect())
     }
 
     /// What a line, with its line feed, gives. It is read first; then its numbers may be out of
@@ -282,6 +231,7 @@ impl RosterReader {
 
     /// Reads three items with one blank between.
     fn readable(self, text: &[u8]) -> Result<Line, Fault> {
+        let text = self.variant.line_slip(text);
         let items: Vec<&[u8]> = text.split(|byte| *byte == b' ').collect();
         let [party, kind, name] = items[..] else {
             return Err(Fault::Items);
@@ -315,20 +265,8 @@ impl RosterReader {
         }
     }
 
-    /// Reads decimal digits, any number of them, without a leading zero.
     fn number(self, digits: &[u8]) -> Result<u64, Fault> {
-        let all_digits = !digits.is_empty() && digits.iter().all(u8::is_ascii_digit);
-        let leading_zero = digits.len() > 1 && digits[0] == b'0';
-        let too_many = self.variant == RosterVariant::LongNumberIsUnreadable && digits.len() > 10;
-        if !all_digits || leading_zero || too_many {
-            return Err(Fault::Number);
-        }
-        Ok(digits.iter().fold(0, |number, digit| {
-            let digit = u64::from(digit - b'0');
-            self.variant
-                .digit_slip(number, digit)
-                .unwrap_or_else(|| (number * 10 + digit).min(BEYOND))
-        }))
+        natural(digits, self.variant.text())
     }
 
     /// The right that a readable line gives if its numbers are in range.

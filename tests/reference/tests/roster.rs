@@ -1,7 +1,8 @@
 //! Roster files: what is printed for them, what is read into words, and each reading of the rules.
 
-use reference::roster::{all_rights, Fault};
-use reference::{read_roster, roster, RosterReader, RosterVariant};
+use reference::lines::Fault;
+use reference::roster::all_rights;
+use reference::{read_roster, roster, RosterReader, RosterVariant, TextSlip};
 
 const NAMES: &str = "party kind name\n";
 
@@ -297,12 +298,12 @@ fn blunders_are_what_they_say() {
     };
     for (variant, text, expected) in [
         (
-            RosterVariant::NumberWrapsAt64,
+            RosterVariant::Text(TextSlip::NumberWrapsAt64),
             "1 p 18446744073709551621\n",
             "party kind name\n1 p 5\n",
         ),
         (
-            RosterVariant::NumberWrapsAt32,
+            RosterVariant::Text(TextSlip::NumberWrapsAt32),
             "1 p 4294967301\n",
             "party kind name\n1 p 5\n",
         ),
@@ -327,7 +328,7 @@ fn blunders_are_what_they_say() {
             "no11\n",
         ),
         (
-            RosterVariant::LeadingZeroIsReadable,
+            RosterVariant::Text(TextSlip::LeadingZeroIsReadable),
             "00 k -07\n",
             "party kind name\n0 k -7\n",
         ),

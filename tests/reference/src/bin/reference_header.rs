@@ -5,6 +5,7 @@ use reference::names::{
     has_partition, key_bit, key_in_range, partition_bit, set_of, Field, Pair, LAST_KEY,
     LAST_PARTITION, MOST_FIELDS, PARTIES,
 };
+use reference::order::{Before, MOST_PAIRS};
 use reference::roster::LONGEST_FILE;
 use reference::table::{KEYS, LIMIT, PARTITIONS, ROSTER_WORDS, WORDS};
 use reference::{Answer, Operation, Query, Reference};
@@ -193,7 +194,7 @@ fn wrong_in_table(text: &str, answer: u32) -> &str {
 }
 
 fn answer_line(text: &str, answer: u32) {
-    let refusals = (1..=14).map(Answer::Refused);
+    let refusals = (1..=16).map(Answer::Refused);
     let founds = (1..=MOST_FIELDS).map(Answer::Found);
     let known = [Answer::Done, Answer::None]
         .into_iter()
@@ -202,9 +203,11 @@ fn answer_line(text: &str, answer: u32) {
     let refusal = answer.saturating_sub(Answer::Refused(0).code());
     let meaning = match known.into_iter().find(|known| known.code() == answer) {
         Some(Answer::Done | Answer::None) => {
-            "Done, if it was open, put or the reading of a roster; none, if it was look, receive or take."
+            "Done, if it was open, put or the reading of a roster; none, if it was look, receive or take; an order, if it was the start order."
         }
-        Some(Answer::Found(_)) => "Found.",
+        Some(Answer::Found(_)) => {
+            "Found; or, if it was the start order, a circle: the answer less 1 is the smallest party on one."
+        }
         Some(Answer::Refused(number)) => {
             assert_eq!(number, refusal);
             wrong_in_table(text, answer)
@@ -212,6 +215,17 @@ fn answer_line(text: &str, answer: u32) {
         None => "No call answers this.",
     };
     println!("answer {answer}: refusal {refusal}, {meaning}");
+}
+
+/// The word of each pair of parties that there are or aren't.
+fn pair_lines() {
+    let parties = [0, 1, 7, 8, 1 << 31, u64::from(u32::MAX)];
+    for first in parties {
+        for second in parties {
+            let word = Before { first, second }.word();
+            println!("space_before {first} {second} {word}");
+        }
+    }
 }
 
 fn some_word(state: &mut u64) -> u64 {
@@ -334,4 +348,6 @@ fn main() {
     gift_lines(7, 1 << 31, i32::MIN);
     (0..=120).for_each(|answer| answer_line(&text, answer));
     answer_line(&text, u32::MAX);
+    pair_lines();
+    println!("SPACE_MOST_PAIRS {MOST_PAIRS}");
 }
