@@ -17,7 +17,7 @@ use Rattle.numbers.specs.Parts.{parts}
 use Rattle.numbers.specs.Lines.{begunWith, BadStart, Begun}
 use Rattle.numbers.proofs.NumbersBack.{free}
 use Rattle.numbers.proofs.Lines.{begun-lines, bad-start}
-use Rattle.roster_file.specs.Rights.{Kind, kindOf, inRange, Said, gives, faulty, judged, said, saidBy, readLine, withRight}
+use Rattle.roster_line.specs.Rights.{Kind, kindOf, inRange, Said, gives, faulty, judged, said, saidBy, readLine, withRight}
 use Rattle.roster_file.specs.File.{refused, follow, readLines, namesLine, fromStart, readFile}
 use Rattle.roster_file.specs.Claims.{Readable, OutOfRange, LineFaults}
 use Rattle.roster_file.specs.Claims.{FaultyBy, GivesRight, FirstFault, FirstFaultDecides}

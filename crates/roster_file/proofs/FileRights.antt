@@ -19,7 +19,7 @@ use Rattle.numbers.specs.Numbers.{natural}
 use Rattle.numbers.specs.Parts.{parts}
 use Rattle.numbers.specs.Lines.{begunWith}
 use Rattle.numbers.proofs.Lines.{begun-parts}
-use Rattle.roster_file.specs.Rights.{Said, gives, faulty, readLine, withRight}
+use Rattle.roster_line.specs.Rights.{Said, gives, faulty, readLine, withRight}
 use Rattle.roster_file.specs.File.{accepted, follow, readLines, namesLine, fromStart, readFile}
 use Rattle.roster_file.specs.Claims.{LineGives, FileGives, Accepts, AcceptedOpens}
 use Rattle.roster_file.proofs.GivenRights.{gives-same, given-range}

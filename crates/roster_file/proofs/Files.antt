@@ -1,19 +1,39 @@
 -- A file line by line: what the lines so far have given, and the lines from here on, decide.
 use Prim.Native.Nat.{ℕ, _+_, _-_, _≤_, _<_}
-use mathlib.Core.Path.{_≡_, refl, sym, ap, _∙_, subst}
+use mathlib.Core.Path.{_≡_, refl, sym, ap, ap₂, _∙_, subst}
 use mathlib.Core.List.{List, [], _∷_}
 use mathlib.Core.Option.{none, some}
 use native.Mathlib.Omega.{arith}
 use lib.ListN.{length, take, drop, drop-of-length-le}
+use Rattle.rules.specs.Names.{Name, setBit}
 use Rattle.rules.specs.Words.{zeros}
 use Rattle.numbers.specs.Parts.{before, parts}
 use Rattle.numbers.specs.Lines.{begunWith}
 use Rattle.numbers.proofs.Parts.{part-is, last-part, further-parts}
-use Rattle.roster_file.specs.Rights.{Said, gives, faulty, readLine}
+use Rattle.roster_line.specs.Rights.{Said, gives, faulty, readLine, wordOf, bitOf, withRight}
+use Rattle.roster_line.specs.Answers.{lineIs}
+use Rattle.roster_line.specs.declared.Line.the-variants as line
 use Rattle.roster_file.specs.File.{Outcome, accepted, refused, atEnd, follow, readLines, namesLine, fromStart, readFile}
 use Rattle.roster_file.specs.Answers.{Added, Went, ReadAs}
 use Rattle.roster_file.specs.declared.Reading.{Reading}
 use Rattle.roster_file.specs.declared.Reading.the-variants as reading
+
+-- ---- a line is added
+
+opened : (who : ℕ) (n : Name) (words : List ℕ) → withRight who n words ≡ setBit (wordOf who n) (bitOf n) words
+unfolding withRight
+opened who n words = refl
+
+pub right-added : (s : Said) (i c : ℕ) → line.Right i c ≡ lineIs s → (words after : List ℕ) → after ≡ setBit i c words → Added s reading.Given words after
+right-added (gives who n) i c q words after h =
+    let x : i ≡ wordOf who n = cc in
+    let y : c ≡ bitOf n = cc in
+    (refl, h ∙ ap₂ (λ (i c : ℕ). setBit i c words) x y ∙ sym (opened who n words))
+right-added (faulty n) i c q words after h = let z : _≡_ {A = ℕ} 0 1 = cc in absurd (omega arith)
+
+pub none-added : (s : Said) (n : ℕ) (words : List ℕ) → line.Refused n ≡ lineIs s → Added s (reading.Refused n) words words
+none-added (gives who m) n words q = let z : _≡_ {A = ℕ} 0 1 = cc in absurd (omega arith)
+none-added (faulty m) n words q = let x : n ≡ m = cc in (ap reading.Refused x, refl)
 
 -- ---- what follows a line that was added, or was not
 

@@ -12,9 +12,9 @@ use Rattle.numbers.specs.Numbers.{whole, decimal, decimalKey, keyOf}
 use Rattle.numbers.specs.Parts.{parts}
 use Rattle.numbers.proofs.Keys.{key-of}
 use Rattle.numbers.proofs.NumbersBack.{natural-back, whole-back, decimal-free, key-free, free, part-then, part-last}
-use Rattle.roster_file.specs.Rights.{gives, saidBy, readLine}
+use Rattle.roster_line.specs.Rights.{gives, saidBy, readLine}
 use Rattle.roster_file.specs.Printed.{rightText}
-use Rattle.roster_file.proofs.Lines.{InRange, line-in-range}
+use Rattle.roster_line.proofs.Lines.{InRange, line-in-range}
 
 pub gives-same : (w who : ℕ) (m n : Name) → gives w m ≡ gives who n → (w ≡ who) × (m ≡ n)
 gives-same w who m n e = let p : w ≡ who = cc in let q : m ≡ n = cc in (p, q)

@@ -1,4 +1,3 @@
-pub mod Lines
 pub mod Files
 pub mod Faults
 pub mod GivenRights

@@ -15,7 +15,7 @@ use Rattle.rules.proofs.Loops.{all-append}
 use Rattle.numbers.specs.Numbers.{decimal, keyOf}
 use Rattle.numbers.specs.Parts.{parts}
 use Rattle.numbers.proofs.NumbersBack.{free, decimal-free, key-free, part-then}
-use Rattle.roster_file.specs.Rights.{bitOf}
+use Rattle.roster_line.specs.Rights.{bitOf}
 use Rattle.roster_file.specs.File.{namesLine}
 use Rattle.roster_file.specs.Printed.{namesIn, nameText, rightText, namesText, partyText, partiesText, printed}
 

@@ -9,7 +9,7 @@ use Rattle.rules.specs.Names.{Name, partition, key, bit, bitsIn}
 use Rattle.rules.specs.Words.{parties}
 use Rattle.numbers.specs.Numbers.{decimal}
 use Rattle.numbers.proofs.Keys.{decimal-short, key-short}
-use Rattle.roster_file.specs.Rights.{bitOf}
+use Rattle.roster_line.specs.Rights.{bitOf}
 use Rattle.roster_file.specs.File.{namesLine}
 use Rattle.roster_file.specs.Printed.{nameText, rightText, namesText, partyText, partiesText, printed}
 use Rattle.rules.proofs.Members.{keep-short, All-in, from-in}

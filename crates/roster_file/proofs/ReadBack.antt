@@ -15,7 +15,7 @@ use Rattle.rules.specs.Words.{parties, zeros, opening}
 use Rattle.rules.specs.Claims.{Iff}
 use Rattle.rules.proofs.BitLaws.{no-bit}
 use Rattle.rules.proofs.ListLaws.{bool, clash, All-at}
-use Rattle.roster_file.specs.Rights.{gives, readLine, withRight, wordOf, bitOf}
+use Rattle.roster_line.specs.Rights.{gives, readLine, withRight, wordOf, bitOf}
 use Rattle.roster_file.specs.File.{accepted, readLines, namesLine, readFile}
 use Rattle.roster_file.specs.Printed.{rightText, partiesText, printed, outputOf}
 use Rattle.roster_file.specs.Claims.{LineGives, GivesRight, EveryRosterReadsBack, OutputReadsBack, AlikeOpensAlike}

@@ -18,7 +18,7 @@ use Rattle.rules.specs.Lists.{all, All}
 use Rattle.rules.specs.Names.{Name, partition, key, NameInRange, bit, withBit, setBit, heldIn}
 use Rattle.rules.proofs.BitLaws.{bit-self, bit-set, bit-set-kept}
 use Rattle.rules.proofs.ListLaws.{bool, clash, or-left, or-right, all-true, All-at}
-use Rattle.roster_file.specs.Rights.{wordOf, bitOf, withRight}
+use Rattle.roster_line.specs.Rights.{wordOf, bitOf, withRight}
 use Rattle.roster_file.specs.Claims.{Accepts}
 
 -- the roster gives the party the name

@@ -13,7 +13,7 @@ use Rattle.numbers.specs.Parts.{parts}
 use Rattle.numbers.proofs.Decimal.{decimal-small, decimal-more}
 use Rattle.numbers.proofs.Keys.{key-up, key-down}
 use Rattle.numbers.proofs.NumbersBack.{part-then}
-use Rattle.roster_file.specs.Rights.{Said, withRight}
+use Rattle.roster_line.specs.Rights.{Said, withRight}
 use Rattle.roster_file.specs.File.{follow, readLines}
 use Rattle.roster_file.specs.Printed.{rightText}
 use Rattle.roster_file.specs.Answers.{Stands, signed, NameAt, NameIs, RightAt, UsualIs, Passed}

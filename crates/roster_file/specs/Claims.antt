@@ -16,7 +16,7 @@ use Rattle.rules.specs.Claims.{Iff}
 use Rattle.numbers.specs.Numbers.{natural, whole}
 use Rattle.numbers.specs.Parts.{parts}
 use Rattle.numbers.specs.Lines.{BadStart, Begun}
-use Rattle.roster_file.specs.Rights.{Kind, kindOf, inRange, gives, faulty, readLine}
+use Rattle.roster_line.specs.Rights.{Kind, kindOf, inRange, gives, faulty, readLine}
 use Rattle.roster_file.specs.File.{accepted, refused, namesLine, readFile}
 use Rattle.roster_file.specs.Printed.{printed, output}
 

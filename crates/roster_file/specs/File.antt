@@ -4,7 +4,7 @@ use mathlib.Core.Option.{Option, none, some}
 use Prim.Native.Nat.{ℕ}
 use Rattle.rules.specs.Words.{zeros}
 use Rattle.numbers.specs.Lines.{begunWith}
-use Rattle.roster_file.specs.Rights.{Said, gives, faulty, readLine, withRight}
+use Rattle.roster_line.specs.Rights.{Said, gives, faulty, readLine, withRight}
 
 -- D4, D5: the roster that a file gives, or the number by which it is refused
 pub data Outcome : Type 0 where

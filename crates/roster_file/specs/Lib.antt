@@ -1,4 +1,3 @@
-pub mod Rights
 pub mod File
 pub mod Printed
 pub mod Claims

@@ -2,10 +2,11 @@
 use mathlib.Core.Path.{_≡_, sym, _∙_}
 use native.Mathlib.Omega.{arith}
 use borrow.Author.Needs.{needs}
-use Rattle.roster_file.specs.Rights.{Said, readLine}
-use Rattle.roster_file.specs.Answers.{lineIs}
-use Rattle.roster_file.specs.declared.Line.the-variants.{Right}
-use Rattle.roster_file.proofs.Lines.{line-in-range, right-in-range, right-added, none-added}
+use Rattle.roster_line.specs.Rights.{Said, readLine}
+use Rattle.roster_line.specs.Answers.{lineIs}
+use Rattle.roster_line.specs.declared.Line.the-variants.{Right}
+use Rattle.roster_line.proofs.Lines.{line-in-range, right-in-range}
+use Rattle.roster_file.proofs.Files.{right-added, none-added}
 use Rattle.roster_file.proofs.add_line.Statement.{statement}
 use Rattle.roster_file.proofs.add_line.Tie as tie
 

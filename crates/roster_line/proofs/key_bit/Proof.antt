@@ -6,11 +6,11 @@ use mir.Facts.{toZ-ofZ}
 use mir.Syntax.{w32}
 use mir.Val.{toZ, ofZ}
 use Rattle.numbers.specs.declared.Whole.the-variants.{Value}
-use Rattle.roster_file.specs.Answers.{keyIn}
-use Rattle.roster_file.specs.declared.Bit.the-variants as bits
-use Rattle.roster_file.proofs.Lines.{key-at, key-out}
-use Rattle.roster_file.proofs.key_bit.Statement.{statement}
-use Rattle.roster_file.proofs.key_bit.Tie as tie
+use Rattle.roster_line.specs.Answers.{keyIn}
+use Rattle.roster_line.specs.declared.Bit.the-variants as bits
+use Rattle.roster_line.proofs.Lines.{key-at, key-out}
+use Rattle.roster_line.proofs.key_bit.Statement.{statement}
+use Rattle.roster_line.proofs.key_bit.Tie as tie
 
 -- the places of the walk, each by its way to the place before it: `a-b` goes from `a` back to `b`
 abbrev known-start : tie.After-known-told → tie.Start

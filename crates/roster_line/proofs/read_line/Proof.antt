@@ -7,10 +7,10 @@ use lib.ListN.{take, drop}
 use lib.Seq.{length-take-le}
 use Rattle.numbers.specs.Answers.{UpTo}
 use Rattle.numbers.proofs.Signed.{up-to}
-use Rattle.roster_file.specs.Answers.{lineIs}
-use Rattle.roster_file.proofs.Lines.{first-end, second-end, one-item, two-items, more-items, three-items, judged-by}
-use Rattle.roster_file.proofs.read_line.Statement.{statement}
-use Rattle.roster_file.proofs.read_line.Tie as tie
+use Rattle.roster_line.specs.Answers.{lineIs}
+use Rattle.roster_line.proofs.Lines.{first-end, second-end, one-item, two-items, more-items, three-items, judged-by}
+use Rattle.roster_line.proofs.read_line.Statement.{statement}
+use Rattle.roster_line.proofs.read_line.Tie as tie
 
 -- the places of the walk, each by its way to the place before it: `a-b` goes from `a` back to `b`
 abbrev first-start : tie.After-part-end → tie.Start

@@ -2,10 +2,10 @@
 use mathlib.Core.Path.{sym, ap₂}
 use borrow.Author.Needs.{needs}
 use Rattle.numbers.specs.declared.Natural.{Natural}
-use Rattle.roster_file.specs.declared.Bit.{Bit}
-use Rattle.roster_file.specs.Answers.{rightIn}
-use Rattle.roster_file.proofs.right.Statement.{statement}
-use Rattle.roster_file.proofs.right.Tie as tie
+use Rattle.roster_line.specs.declared.Bit.{Bit}
+use Rattle.roster_line.specs.Answers.{rightIn}
+use Rattle.roster_line.proofs.right.Statement.{statement}
+use Rattle.roster_line.proofs.right.Tie as tie
 
 -- the place of the walk where party and bit are known, by its way to the start
 abbrev known-start : tie.After-known-told2 → tie.Start

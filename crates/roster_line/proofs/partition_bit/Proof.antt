@@ -6,10 +6,10 @@ use mir.Facts.{toZ-ofZ}
 use mir.Syntax.{w32}
 use mir.Val.{toZ, ofZ}
 use Rattle.numbers.specs.declared.Whole.the-variants.{Value}
-use Rattle.roster_file.specs.Answers.{partitionIn}
-use Rattle.roster_file.proofs.Lines.{partition-at, partition-out, partition-fits}
-use Rattle.roster_file.proofs.partition_bit.Statement.{statement}
-use Rattle.roster_file.proofs.partition_bit.Tie as tie
+use Rattle.roster_line.specs.Answers.{partitionIn}
+use Rattle.roster_line.proofs.Lines.{partition-at, partition-out, partition-fits}
+use Rattle.roster_line.proofs.partition_bit.Statement.{statement}
+use Rattle.roster_line.proofs.partition_bit.Tie as tie
 
 -- the places of the walk, each by its way to the place before it: `a-b` goes from `a` back to `b`
 abbrev in-known : tie.Then1 → tie.After-known-told

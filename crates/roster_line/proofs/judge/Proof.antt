@@ -1,11 +1,11 @@
 -- By the kind.
 use mathlib.Core.Path.{sym, ap, _∙_}
 use borrow.Author.Needs.{needs}
-use Rattle.roster_file.specs.declared.Bit.{Bit}
-use Rattle.roster_file.specs.declared.Kind.{Kind}
-use Rattle.roster_file.specs.Answers.{rightIn, judgedIn}
-use Rattle.roster_file.proofs.judge.Statement.{statement}
-use Rattle.roster_file.proofs.judge.Tie as tie
+use Rattle.roster_line.specs.declared.Bit.{Bit}
+use Rattle.roster_line.specs.declared.Kind.{Kind}
+use Rattle.roster_line.specs.Answers.{rightIn, judgedIn}
+use Rattle.roster_line.proofs.judge.Statement.{statement}
+use Rattle.roster_line.proofs.judge.Tie as tie
 
 -- the places of the walk, each by its way to the place before it: `a-b` goes from `a` back to `b`
 abbrev partition-kind : tie.After-partition-bit → tie.After-enum-told

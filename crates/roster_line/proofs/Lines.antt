@@ -1,6 +1,6 @@
 -- A line by its items, and what the code's tests of a line come to.
 use Prim.Native.Nat.{ℕ, _+_, _-_, _≤_, _<_}
-use mathlib.Core.Path.{_≡_, refl, sym, ap, ap₂, _∙_}
+use mathlib.Core.Path.{_≡_, refl, sym, ap, _∙_}
 use mathlib.Core.Logic.{_⊎_, inl, inr}
 use mathlib.Core.Bool.{Bool, true, false, _&&_, cond}
 use mathlib.Core.List.{List, [], _∷_}
@@ -14,7 +14,7 @@ use lib.ListN.{length, take, drop}
 use lib.Signed.{nonNeg}
 use mir.Syntax.{w64}
 use mir.Val.{Fits}
-use Rattle.rules.specs.Names.{Name, partition, key, NameInRange, keyInRange, stored, setBit}
+use Rattle.rules.specs.Names.{Name, partition, key, NameInRange, keyInRange, stored}
 use Rattle.rules.proofs.ListLaws.{bool, clash, and-right}
 use Rattle.rules.proofs.KeyLaws.{stored-le}
 use Rattle.numbers.specs.Numbers.{natural, whole}
@@ -25,12 +25,11 @@ use Rattle.numbers.specs.declared.Whole.{Whole}
 use Rattle.numbers.specs.declared.Whole.the-variants as wholes
 use Rattle.numbers.proofs.Parts.{end-high, part-is, last-part, further-parts}
 use Rattle.numbers.proofs.Keys.{key-fits}
-use Rattle.roster_file.specs.Rights.{Kind, aPartition, aKey, kindOf, inRange, nameOf, Said, gives, faulty, said, saidBy, readLine, wordOf, bitOf, withRight}
-use Rattle.roster_file.specs.Answers.{kindIn, partitionIn, keyIn, rightIn, judgedIn, lineIs, Added}
-use Rattle.roster_file.specs.declared.Bit.the-variants as bits
-use Rattle.roster_file.specs.declared.Kind as codes
-use Rattle.roster_file.specs.declared.Line.the-variants as line
-use Rattle.roster_file.specs.declared.Reading.the-variants as reading
+use Rattle.roster_line.specs.Rights.{Kind, aPartition, aKey, kindOf, inRange, nameOf, Said, gives, faulty, said, saidBy, readLine}
+use Rattle.roster_line.specs.Answers.{kindIn, partitionIn, keyIn, rightIn, judgedIn, lineIs}
+use Rattle.roster_line.specs.declared.Bit.the-variants as bits
+use Rattle.roster_line.specs.declared.Kind as codes
+use Rattle.roster_line.specs.declared.Line.the-variants as line
 
 -- ---- the items: the first ends at a, the second at b, the third at c
 
@@ -223,31 +222,7 @@ line-in-range t = go (parts 32 t)
     go (a ∷ b ∷ c ∷ []) = said-in-range (natural a) (kindOf b) (whole c)
     go (a ∷ b ∷ c ∷ d ∷ ps) = tt
 
--- ---- a line is added
-
-opened : (who : ℕ) (n : Name) (words : List ℕ) → withRight who n words ≡ setBit (wordOf who n) (bitOf n) words
-unfolding withRight
-opened who n words = refl
-
-module _ (s : Said) (i c : ℕ) (e : line.Right i c ≡ lineIs s) where
-  pub right-in-range : InRange s → (i < 16) × (c < 64)
-  right-in-range = go s e
-    where
-      go : (s : Said) → line.Right i c ≡ lineIs s → InRange s → (i < 16) × (c < 64)
-      go (gives who (partition d)) q h = let x : i ≡ who = cc in let y : c ≡ d = cc in (omega (arith, h .0), omega (arith, h .1))
-      go (gives who (key d)) q h = let x : i ≡ 8 + who = cc in let y : c ≡ d = cc in (omega (arith, h .0), omega (arith, h .1))
-      go (faulty n) q h = let z : _≡_ {A = ℕ} 0 1 = cc in absurd (omega arith)
-
-  pub right-added : (words after : List ℕ) → after ≡ setBit i c words → Added s reading.Given words after
-  right-added words after h = go s e
-    where
-      go : (s : Said) → line.Right i c ≡ lineIs s → Added s reading.Given words after
-      go (gives who n) q =
-          let x : i ≡ wordOf who n = cc in
-          let y : c ≡ bitOf n = cc in
-          (refl, h ∙ ap₂ (λ (i c : ℕ). setBit i c words) x y ∙ sym (opened who n words))
-      go (faulty n) q = let z : _≡_ {A = ℕ} 0 1 = cc in absurd (omega arith)
-
-pub none-added : (s : Said) (n : ℕ) (words : List ℕ) → line.Refused n ≡ lineIs s → Added s (reading.Refused n) words words
-none-added (gives who m) n words q = let z : _≡_ {A = ℕ} 0 1 = cc in absurd (omega arith)
-none-added (faulty m) n words q = let x : n ≡ m = cc in (ap reading.Refused x, refl)
+pub right-in-range : (s : Said) (i c : ℕ) → line.Right i c ≡ lineIs s → InRange s → (i < 16) × (c < 64)
+right-in-range (gives who (partition d)) i c q h = let x : i ≡ who = cc in let y : c ≡ d = cc in (omega (arith, h .0), omega (arith, h .1))
+right-in-range (gives who (key d)) i c q h = let x : i ≡ 8 + who = cc in let y : c ≡ d = cc in (omega (arith, h .0), omega (arith, h .1))
+right-in-range (faulty n) i c q h = let z : _≡_ {A = ℕ} 0 1 = cc in absurd (omega arith)

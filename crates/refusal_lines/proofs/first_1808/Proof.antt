@@ -3,8 +3,8 @@ use mathlib.Core.Path.{sym}
 use native.Mathlib.Omega.{arith}
 use lib.Seq.{length-take-le}
 use borrow.Author.Needs.{needs}
-use Rattle.refusal_examples.proofs.first_1808.Statement.{statement}
-use Rattle.refusal_examples.proofs.first_1808.Tie as tie
+use Rattle.refusal_lines.proofs.first_1808.Statement.{statement}
+use Rattle.refusal_lines.proofs.first_1808.Tie as tie
 
 array-share-prefix-words : tie.Need-array-share-prefix-words
 array-share-prefix-words c = search needs

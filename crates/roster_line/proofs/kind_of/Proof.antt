@@ -1,8 +1,8 @@
 -- By the two comparisons, in their order.
 use mathlib.Core.Path.{sym, _∙_}
 use borrow.Author.Needs.{needs}
-use Rattle.roster_file.proofs.kind_of.Statement.{statement}
-use Rattle.roster_file.proofs.kind_of.Tie as tie
+use Rattle.roster_line.proofs.kind_of.Statement.{statement}
+use Rattle.roster_line.proofs.kind_of.Tie as tie
 
 -- the places of the walk, each by its way to the place before it: `a-b` goes from `a` back to `b`
 abbrev p-compared : tie.Then1 → tie.After-same
