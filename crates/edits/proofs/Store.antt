@@ -1,11 +1,11 @@
 -- A loop that writes a list towards a list f, from the front: at i it has the first i elements of f, and d's from i on.
-use Prim.Native.Nat.{ℕ, zero, suc, _+_, _-_, _<_}
+use Prim.Native.Nat.{ℕ, zero, suc, _+_, _-_, _≤_, _<_}
 use mathlib.Core.Path.{_≡_, refl, ap, _∙_}
 use mathlib.Core.List.{List, [], _∷_, _++_, append-nil}
 use native.Mathlib.Nat.{le-of-suc-le-suc, not-suc-le-zero, add-comm}
 use native.Mathlib.Numerals.{add-one}
 use native.Mathlib.Omega.{arith}
-use lib.ListN.{length, take, drop, getD, set, length-take, length-drop}
+use lib.ListN.{length, take, drop, getD, set, length-take, length-drop, drop-of-length-le}
 use lib.Seq.{getD-append-add, getD-drop, take-at, take-all, take-length, drop-length}
 
 store-suc : (f d : List ℕ) (i : ℕ) → i < length f → i < length d → set (take i f ++ drop i d) i (getD f i 0) ≡ take (suc i) f ++ drop (suc i) d
@@ -44,3 +44,9 @@ store-all f d p i h e m =
     let a : take i f ≡ f = rw m (take-length f) in
     let b : drop i d ≡ [] = rw m′ (drop-length d) in
     h ∙ rw (a, b) (append-nil f)
+
+-- as many words come in the place of all that there are
+pub all-replaced : (src dst : List ℕ) → length dst ≡ length src → src ++ drop (length src) dst ≡ src
+all-replaced src dst e =
+    let l : length dst ≤ length src = omega arith in
+    ap (λ (r : List ℕ). src ++ r) (drop-of-length-le dst l) ∙ append-nil src

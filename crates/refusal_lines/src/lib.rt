@@ -3,8 +3,14 @@ use search::Op;
 use space::Answer;
 ghost use mathlib.Core.Path.{_≡_};
 ghost use mathlib.Core.Bool.{_&&_};
-ghost use lib.ListN.{length, set};
+ghost use mathlib.Core.List.{[], _∷_};
+ghost use lib.IntN.{pos};
+ghost use lib.ListN.{set, take};
+ghost use Rattle.rules.specs.Matching.{pair};
+ghost use Rattle.rules.specs.Calls.{put};
+ghost use Rattle.rules.specs.Words.{call};
 ghost use Rattle.numbers.specs.Parts as parts;
+ghost use Rattle.refusal_lines.specs.Start.{roster, opened};
 
 // Field words with value 0.
 pub const PARTITION: u64 = 4294967296;
@@ -37,7 +43,7 @@ const KEY_MINUS_4: u64 = 134217728;
 
 // Party 0 holds partition 5 and key 4, and party 1 partition 5 and key -4.
 pub fn roster() -> [u64; 16]
-    ensures { λ r. ⌜ 16 ≡ length r ⌝ }
+    ensures { λ r. ⌜ r ≡ roster ⌝ }
 {
     let mut roster = [0u64; 16];
     roster[0] = SET_5;
@@ -48,7 +54,7 @@ pub fn roster() -> [u64; 16]
 }
 
 pub fn opened() -> [u64; 1809]
-    ensures { λ r. ⌜ 1809 ≡ length r ⌝ }
+    ensures { λ r. ⌜ r ≡ opened ⌝ }
 {
     let mut words = [0u64; 1809];
     space::open(&mut words, &roster());
@@ -56,7 +62,7 @@ pub fn opened() -> [u64; 1809]
 }
 
 pub fn first_1808(words: [u64; 1809]) -> [u64; 1808]
-    ensures { λ r. ⌜ 1808 ≡ length r ⌝ }
+    ensures { λ r. ⌜ r ≡ take 1808 words ⌝ }
 {
     let mut first = [0u64; 1808];
     edits::copy_in(&words[..1808], &mut first);
@@ -72,7 +78,7 @@ pub fn with_129_entries(words: [u64; 1809]) -> [u64; 1809]
 }
 
 pub fn with_an_entry(words: [u64; 1809]) -> [u64; 1809]
-    ensures { λ r. ⌜ 1809 ≡ length r ⌝ }
+    ensures { λ r. ⌜ r ≡ call words (put 0 (pair 32 (pos 4)) (pair 32 (pos 4)) (7 ∷ 120 ∷ [])) .space ⌝ }
 {
     let mut more = words;
     space::put(&mut more, 0, SET_5, 4, SET_5, 4, &[7, 120]);

@@ -1,7 +1,8 @@
--- `first_1808` meets its contract.
-use mathlib.Core.Path.{sym}
+-- `first_1808` meets its contract: as many words are copied as there are.
+use mathlib.Core.Path.{sym, _∙_}
 use native.Mathlib.Omega.{arith}
 use lib.Seq.{length-take-le}
+use Rattle.edits.proofs.Store.{all-replaced}
 use borrow.Author.Needs.{needs}
 use Rattle.refusal_lines.proofs.first_1808.Statement.{statement}
 use Rattle.refusal_lines.proofs.first_1808.Tie as tie
@@ -19,7 +20,7 @@ copy-in-requires : tie.Need-copy-in-requires
 copy-in-requires c κs = omega (arith, slice-aggregate-copy-in (c .before))
 
 returns : tie.Need-returns
-returns c = search needs
+returns c = c .before .copy-in .ensures ∙ all-replaced _ _ (slice-aggregate-copy-in (c .before .before .before))
 
 pub first-1808-spec : {M : Type 1} → statement M
 first-1808-spec =

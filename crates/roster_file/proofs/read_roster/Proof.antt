@@ -1,10 +1,10 @@
 -- By the start of the file, and then by its lines; the words are copied only where all of them are good.
-use Prim.Native.Nat.{ℕ, _≤_}
-use mathlib.Core.Path.{_≡_, refl, sym, ap, _∙_, subst}
-use mathlib.Core.List.{List, [], _++_, append-nil}
+use Prim.Native.Nat.{ℕ}
+use mathlib.Core.Path.{refl, sym, _∙_, subst}
+use mathlib.Core.List.{List}
 use native.Mathlib.Omega.{arith}
+use Rattle.edits.proofs.Store.{all-replaced}
 use borrow.Author.Needs.{needs}
-use lib.ListN.{length, drop, drop-of-length-le}
 use Rattle.rules.specs.Words.{zeros}
 use Rattle.numbers.specs.Answers.{BeginsAt, BeginsAs}
 use Rattle.numbers.specs.declared.Beginning.{Beginning}
@@ -72,13 +72,6 @@ went c =
     subst (λ (o : Outcome). Went o (c .read-lines .result) (words-at c)) (sym (start-read _ _ (begun (made-begun (read-made c)) .lines)))
     (c .read-lines .ensures)
 
--- sixteen words come in the place of sixteen
-copied : (words roster : List ℕ) → length roster ≡ length words → words ++ drop (length words) roster ≡ words
-copied words roster e =
-    let l : length roster ≤ length words = omega arith in
-    let d : drop (length words) roster ≡ [] = drop-of-length-le roster l in
-    ap (λ (l : List ℕ). words ++ l) d ∙ append-nil words
-
 slice-aggregate-lines-start : tie.Need-slice-aggregate-lines-start
 slice-aggregate-lines-start c = search needs
 
@@ -129,7 +122,7 @@ returns-3 c =
     let read = given-read given in
     let roster = read-start read .args .roster .now in
     went-read (outcome read) (read .read-lines .result) (words-at read) (went read) (given .enum-told2 .given .1) roster (done .copy-in .last .1 .0)
-    (done .copy-in .ensures ∙ copied (words-at read) roster (omega (arith, given .before .before .words2 .given, read-start read .pre)))
+    (done .copy-in .ensures ∙ all-replaced (words-at read) roster (omega (arith, given .before .before .words2 .given, read-start read .pre)))
 
 pub read-roster-spec : {M : Type 1} → statement M
 read-roster-spec =
