@@ -6,6 +6,7 @@
 #include "calls.h"
 #include "plain.h"
 #include "space.h"
+#include "tried.h"
 #include <stdio.h>
 
 #ifndef CALLS
@@ -371,13 +372,6 @@ static int all_rows(void)
         if (!bad_words_refused(row, 1) || !taken_and_put(row)) return 0;
     printf("calls row by row %u, alike\n", (unsigned)in_rows);
     return 1;
-}
-
-/* Prints a number that must not be 0. */
-static int tried(const char *what, uint32_t times)
-{
-    printf("%s %u%s\n", what, (unsigned)times, times ? "" : " FAILED: never tried");
-    return times > 0;
 }
 
 /* Can a call of this kind be refused so? */

@@ -5,6 +5,7 @@
 #include "plain.h"
 #include "random.h"
 #include "space.h"
+#include "tried.h"
 #include <stdio.h>
 #include <string.h>
 
@@ -245,13 +246,6 @@ static int one_file(uint32_t number)
 }
 
 /* 3. What was seen. */
-
-/* Prints a number that must not be 0. */
-static int tried(const char *what, uint32_t times)
-{
-    printf("%s %u%s\n", what, (unsigned)times, times ? "" : " FAILED: never tried");
-    return times > 0;
-}
 
 static int all_tried(void)
 {

@@ -11,7 +11,7 @@ use lib.ListN.{length}
 use Rattle.rules.specs.Lists.{any, keep, All, Some, In, from}
 use Rattle.rules.proofs.ListLaws.{bool}
 
-or-true : (b : Bool) → (b || true) ≡ true
+pub or-true : (b : Bool) → (b || true) ≡ true
 or-true true = refl
 or-true false = refl
 

@@ -2,9 +2,10 @@
 use Prim.Native.Nat.{ℕ, zero, suc, _<_}
 use mathlib.Core.Path.{_≡_, refl, subst}
 use mathlib.Core.Logic.{_⊎_, inl, inr}
-use mathlib.Core.Bool.{Bool, true, false, _&&_, _||_}
+use mathlib.Core.Bool.{true, _&&_}
 use native.Mathlib.Decide.{ℕ-discrete}
 use native.Mathlib.Omega.{arith}
+use Rattle.rules.proofs.Members.{or-true}
 use Rattle.rules.proofs.ListLaws.{and-left, and-right}
 use Rattle.start_order.specs.Pairs.{Pairs, Relation, precedes, chain}
 use Rattle.start_order.specs.Claims.{Chain}
@@ -31,11 +32,7 @@ module _ (R : Relation) where
 
   met : (k a b : ℕ) → chain R k a k ≡ true → chain R k k b ≡ true → chain R (suc k) a b ≡ true
   unfolding chain
-  met k a b f h = rw (f, h) (go (chain R k a b))
-    where
-      go : (t : Bool) → (t || true) ≡ true
-      go true = refl
-      go false = refl
+  met k a b f h = rw (f, h) (or-true (chain R k a b))
 
   -- to and from k itself nothing is gained
   to-last : (k a : ℕ) → Ways k a k → chain R k a k ≡ true

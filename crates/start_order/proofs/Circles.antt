@@ -2,7 +2,7 @@
 use Prim.Native.Nat.{ℕ, zero, suc, _+_, _≤_, _<_}
 use mathlib.Core.Path.{_≡_, refl, sym, ap, _∙_, subst}
 use mathlib.Core.Logic.{_⊎_, inl, inr}
-use mathlib.Core.Bool.{Bool, true, false, not, _||_}
+use mathlib.Core.Bool.{Bool, true, false, not}
 use mathlib.Core.Option.{Option, none, some}
 use mathlib.Core.List.{List, [], _∷_, _++_, append-assoc}
 use native.Mathlib.Decide.{ℕ-discrete}
@@ -15,6 +15,7 @@ use Rattle.rules.proofs.ListLaws.{bool, clash, all-of}
 use Rattle.rules.proofs.Members.{in-keep, keep-in, in-from, from-in, All-in, in-left}
 use Rattle.start_order.specs.Pairs.{Relation, chain, onCircle}
 use Rattle.start_order.specs.Order.{ready, next, isIn, goesOn, orderFrom, order}
+use Rattle.start_order.proofs.Pairs.{or-false}
 use Rattle.start_order.proofs.Chains.{meets, direct}
 use Rattle.start_order.proofs.Places.{isIn-in, isIn-snoc, isIn-last, none-of, next-smallest, next-unplaced}
 
@@ -53,11 +54,7 @@ one-placed placed p l u =
     one-less (Unplaced placed) (Unplaced (placed ++ (p ∷ []))) p others (rw u refl) (rw (isIn-last placed p) refl) 0 8 (omega arith) l
   where
     others : (q : ℕ) → (p ≡ q → ⊥) → Unplaced placed q ≡ Unplaced (placed ++ (p ∷ [])) q
-    others q n = rw (isIn-snoc placed p q, ne-eqb p q n) (go (isIn placed q))
-      where
-        go : (b : Bool) → not b ≡ not (b || false)
-        go true = refl
-        go false = refl
+    others q n = rw (isIn-snoc placed p q, ne-eqb p q n) (ap not (sym (or-false (isIn placed q))))
 
 none-unplaced : (placed : List ℕ) → length (unplaced placed) ≡ 0 → (p : ℕ) → p < 8 → In p placed
 unfolding unplaced

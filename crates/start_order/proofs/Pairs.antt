@@ -20,6 +20,14 @@ pub either : (a b : Bool) → (a || b) ≡ true → (a ≡ true) ⊎ (b ≡ true
 either true b e = inl refl
 either false b e = inr e
 
+pub or-false : (b : Bool) → (b || false) ≡ b
+or-false true = refl
+or-false false = refl
+
+pub or-assoc : (r s t : Bool) → ((r || s) || t) ≡ (r || (s || t))
+or-assoc true s t = refl
+or-assoc false s t = refl
+
 -- ---- pairs
 
 tests : (p : ℕ × ℕ) (a b : ℕ) → p ≡ (a, b) → (eqb (p .0) a && eqb (p .1) b) ≡ true

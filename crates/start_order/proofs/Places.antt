@@ -16,6 +16,7 @@ use Rattle.rules.proofs.Members.{any-in, in-any, in-left, in-right}
 use Rattle.start_order.specs.Pairs.{Relation}
 use Rattle.start_order.specs.Order.{ready, next, isIn, goesOn, orderFrom}
 use Rattle.start_order.specs.Claims.{times}
+use Rattle.start_order.proofs.Pairs.{or-false}
 
 -- ---- elements
 
@@ -37,11 +38,7 @@ pub isIn-last : (xs : List ℕ) (q : ℕ) → isIn (xs ++ (q ∷ [])) q ≡ true
 isIn-last xs q = in-isIn (xs ++ (q ∷ [])) q (in-right q xs (q ∷ []) (inl refl))
 
 pub isIn-snoc : (xs : List ℕ) (q p : ℕ) → isIn (xs ++ (q ∷ [])) p ≡ (isIn xs p || eqb q p)
-isIn-snoc [] q p = go (eqb q p)
-  where
-    go : (b : Bool) → (b || false) ≡ b
-    go true = refl
-    go false = refl
+isIn-snoc [] q p = or-false (eqb q p)
 isIn-snoc (x ∷ xs) q p = go (eqb x p) (isIn-snoc xs q p)
   where
     go : (b : Bool) → isIn (xs ++ (q ∷ [])) p ≡ (isIn xs p || eqb q p) → (b || isIn (xs ++ (q ∷ [])) p) ≡ ((b || isIn xs p) || eqb q p)

@@ -18,10 +18,11 @@ use Rattle.rules.specs.Names.{bit, bitsIn, withBit, setBit}
 use Rattle.rules.specs.Words.{parties}
 use Rattle.rules.proofs.BitLaws.{eqb-true, or-bit, bit-with, bit-kept, bit-self, zero-bit, no-bit}
 use Rattle.rules.proofs.ListLaws.{bool, keep-append, All-at}
+use Rattle.rules.proofs.Members.{or-true}
 use Rattle.rules.proofs.SetLaws.{same-truth}
 use Rattle.start_order.specs.Pairs.{Pairs, Relation, precedes}
 use Rattle.start_order.specs.Answers.{relationOf, Sets, gathered, joinedBy}
-use Rattle.start_order.proofs.Pairs.{either, InRange}
+use Rattle.start_order.proofs.Pairs.{either, or-assoc, InRange}
 
 -- ---- bits
 
@@ -37,15 +38,11 @@ or-bits w v d = rw (or-bit w v d) (go (w / 2 ^ d % 2) (v / 2 ^ d % 2) (mod-lt (w
     go (suc zero) (suc (suc y)) h k = absurd (omega arith)
     go (suc (suc x)) y h k = absurd (omega arith)
 
-or-right-true : (a : Bool) → (a || true) ≡ true
-or-right-true true = refl
-or-right-true false = refl
-
 pub with-bits : (w c d : ℕ) → bit (withBit w c) d ≡ (bit w d || eqb c d)
 with-bits w c d = same-truth (bit (withBit w c) d) (bit w d || eqb c d) there back
   where
     there : bit (withBit w c) d ≡ true → (bit w d || eqb c d) ≡ true
-    there h = elim (bit-with w c d h) [ inl e ↦ rw e refl | inr e ↦ rw (eq-eqb c d e) (or-right-true (bit w d)) ]
+    there h = elim (bit-with w c d h) [ inl e ↦ rw e refl | inr e ↦ rw (eq-eqb c d e) (or-true (bit w d)) ]
 
     back : (bit w d || eqb c d) ≡ true → bit (withBit w c) d ≡ true
     back h = elim (either (bit w d) (eqb c d) h) [ inl e ↦ bit-kept w c d e | inr e ↦ subst (λ (x : ℕ). bit (withBit w c) x ≡ true) (eqb-true c d e) (bit-self w c) ]
@@ -63,10 +60,6 @@ party-bits w h = front (from 0 8) (from 8 56) (none-kept 8 56 (omega arith))
     front xs ys e = keep-append (bit w) xs ys ∙ ap (λ (l : List ℕ). keep (bit w) xs ++ l) e ∙ append-nil (keep (bit w) xs)
 
 -- ---- one set changed, all sets mapped
-
-pub or-false : (b : Bool) → (b || false) ≡ b
-or-false true = refl
-or-false false = refl
 
 and-true : (b : Bool) → b ≡ (b && true)
 and-true true = refl
@@ -88,10 +81,6 @@ set-relation ws x y l = fun-ext (λ a. fun-ext (λ b. go a b (ℕ-discrete y b))
     go a b (no n) =
         let other : getD (setBit y x ws) b 0 ≡ getD ws b 0 = getD-set-other ws y b (withBit (getD ws y 0) x) 0 (λ q. n (sym q)) in
         ap (λ (w : ℕ). bit w a) other ∙ unjoined (bit (getD ws b 0) a) (eqb x a) ∙ ap (λ (t : Bool). bit (getD ws b 0) a || (eqb x a && t)) (sym (ne-eqb y b n))
-
-pub or-assoc : (r s t : Bool) → ((r || s) || t) ≡ (r || (s || t))
-or-assoc true s t = refl
-or-assoc false s t = refl
 
 -- the pairs, one after another
 pub gathered-relation : (ps : Pairs) (ws : List ℕ) → length ws ≡ 8 → InRange ps → relationOf (gathered ws ps) ≡ (λ a b. relationOf ws a b || precedes ps a b)

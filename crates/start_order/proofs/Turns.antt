@@ -23,8 +23,9 @@ use Rattle.start_order.specs.Order.{next, isIn, goesOn, orderFrom, order
 use Rattle.start_order.specs.Call.{above7}
 use Rattle.start_order.specs.Answers.{gathered, nextIn}
 use Rattle.start_order.specs.declared.Next.the-variants as found
+use Rattle.start_order.proofs.Pairs.{or-assoc}
 use Rattle.start_order.proofs.Places.{isIn-snoc}
-use Rattle.start_order.proofs.Sets.{or-assoc, with-bits}
+use Rattle.start_order.proofs.Sets.{with-bits}
 
 -- ---- the first of the numbers from i on, below n
 

@@ -1,7 +1,7 @@
 //! Files and lists to be made, and files broken at every place.
 
 use crate::rng::Rng;
-use crate::scripts::break_byte;
+use crate::scripts::{break_byte, cut};
 
 /// Files or lists of one make.
 pub struct Sort<T> {
@@ -105,13 +105,43 @@ pub fn short_files() -> Vec<Vec<u8>> {
     [Vec::new()].into_iter().chain(one).collect()
 }
 
-/// Breaks one byte of the file or more.
-pub fn break_bytes(rng: &mut Rng, file: &mut Vec<u8>) {
+/// The file with one byte broken, or more.
+pub fn with_broken_bytes(rng: &mut Rng, mut file: Vec<u8>) -> Vec<u8> {
     loop {
         let byte = rng.word() as u8;
-        break_byte(rng, file, byte);
+        break_byte(rng, &mut file, byte);
         if rng.percent(70) {
-            return;
+            return file;
         }
     }
+}
+
+/// The file cut short somewhere.
+pub fn cut_short(rng: &mut Rng, mut file: Vec<u8>) -> Vec<u8> {
+    cut(rng, &mut file);
+    file
+}
+
+/// The lines with one of these items in the place of one of theirs, or of more.
+pub fn with_items(rng: &mut Rng, mut lines: Vec<String>, items: &[String]) -> String {
+    loop {
+        let line = rng.below(lines.len());
+        let mut parts: Vec<&str> = lines[line].split(' ').collect();
+        let place = rng.below(parts.len());
+        parts[place] = &items[rng.below(items.len())];
+        lines[line] = parts.join(" ");
+        if rng.percent(60) {
+            return ended(&lines);
+        }
+    }
+}
+
+/// The file, and then bytes without sense, most of them of these.
+pub fn with_noise(rng: &mut Rng, mut file: Vec<u8>, likely: &[u8], counts: &[usize]) -> Vec<u8> {
+    for _ in 0..rng.pick(counts) {
+        let any = rng.word() as u8;
+        let one = rng.pick(likely);
+        file.push(rng.pick(&[any, one, one, one, one]));
+    }
+    file
 }

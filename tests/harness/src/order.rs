@@ -7,7 +7,7 @@ use crate::order_lists::{self, LONGEST_LIST};
 use crate::order_tally::{
     expected_of_files, expected_of_lists, of_file, of_list, reached, FAR_MORE, MOST_LENT,
 };
-use crate::program::{compare_files, difference_text, run, Print};
+use crate::program::{difference_text, run, Print, Texts};
 use crate::report::Report;
 use crate::rng::Rng;
 use crate::sayings::Sayings;
@@ -171,26 +171,16 @@ fn answered_by_hand(call: &OrderCall) -> Result<String, String> {
 }
 
 fn compare_program(report: &mut Report, print: &Print) {
-    let mut tally = Sayings::default();
-    for (index, sort) in order_files::sorts().iter().enumerate() {
-        let outcome = compare_texts(print, sort, FILES_SEED + index as u64, &mut tally);
-        report.check(&format!("order, program: {}", sort.name), outcome);
-    }
+    let texts = Texts {
+        name: "order",
+        print,
+        due: reference::order,
+        said: of_file,
+        first_seed: FILES_SEED,
+    };
+    let tally = texts.compare(report, &order_files::sorts());
     let said = tally.finish(expected_of_files(), "files", FEWEST_RUNS);
     report.check("order, program: what can be said of files", said);
-}
-
-fn compare_texts(
-    print: &Print,
-    sort: &Sort<Vec<u8>>,
-    seed: u64,
-    tally: &mut Sayings,
-) -> Result<String, String> {
-    let alike = compare_files(print, reference::order, sort, seed)?;
-    for number in 0..sort.count {
-        tally.note(of_file(&sort.made(seed, number)));
-    }
-    Ok(alike)
 }
 
 fn compare_library(report: &mut Report, call: &OrderCall) {

@@ -1,6 +1,8 @@
 //! Runs a program on an input, and tells where its output differs from another.
 
 use crate::files::Sort;
+use crate::report::Report;
+use crate::sayings::Sayings;
 use std::io::{Read, Write};
 use std::process::{Child, Command, Stdio};
 use std::sync::mpsc;
@@ -16,26 +18,51 @@ const SHARES: usize = 2;
 /// A program: what it prints for a file.
 pub type Print<'a> = dyn Fn(&[u8]) -> Result<Vec<u8>, String> + Sync + 'a;
 
-/// Compares what a program prints for each file of a sort with what is due.
-pub fn compare_files(
-    print: &Print,
-    due: fn(&[u8]) -> Vec<u8>,
-    sort: &Sort<Vec<u8>>,
-    seed: u64,
-) -> Result<String, String> {
-    in_shares(sort.count, |number| {
-        let file = sort.made(seed, number);
-        let expected = due(&file);
-        let output = print(&file)?;
-        match output == expected {
-            true => Ok(()),
-            false => Err(format!(
-                "seed {seed}, file {number}: {}",
-                difference_text(&file, &output, &expected)
-            )),
+/// A program on the files of all sorts against what is due, with what is said of each file. Sort n
+/// has the seed n after the first.
+pub struct Texts<'a, T> {
+    pub name: &'a str,
+    pub print: &'a Print<'a>,
+    pub due: fn(&[u8]) -> Vec<u8>,
+    pub said: fn(&[u8]) -> Vec<T>,
+    pub first_seed: u64,
+}
+
+impl<T: ToString> Texts<'_, T> {
+    /// Compares sort by sort and counts what was said.
+    pub fn compare(&self, report: &mut Report, sorts: &[Sort<Vec<u8>>]) -> Sayings {
+        let mut tally = Sayings::default();
+        for (index, sort) in sorts.iter().enumerate() {
+            let outcome = self.compare_sort(sort, self.first_seed + index as u64, &mut tally);
+            report.check(&format!("{}, program: {}", self.name, sort.name), outcome);
         }
-    })?;
-    Ok(format!("seed {seed}, {} files alike", sort.count))
+        tally
+    }
+
+    fn compare_sort(
+        &self,
+        sort: &Sort<Vec<u8>>,
+        seed: u64,
+        tally: &mut Sayings,
+    ) -> Result<String, String> {
+        let (print, due) = (self.print, self.due);
+        in_shares(sort.count, |number| {
+            let file = sort.made(seed, number);
+            let expected = due(&file);
+            let output = print(&file)?;
+            match output == expected {
+                true => Ok(()),
+                false => Err(format!(
+                    "seed {seed}, file {number}: {}",
+                    difference_text(&file, &output, &expected)
+                )),
+            }
+        })?;
+        for number in 0..sort.count {
+            tally.note((self.said)(&sort.made(seed, number)));
+        }
+        Ok(format!("seed {seed}, {} files alike", sort.count))
+    }
 }
 
 /// Checks each number below `count`, every second one in another thread. Gives what is wrong with

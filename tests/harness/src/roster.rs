@@ -2,7 +2,7 @@
 
 use crate::edge::{Edge, Side};
 use crate::files::Sort;
-use crate::program::{compare_files, difference_text, in_shares, run, Print};
+use crate::program::{difference_text, in_shares, run, Print, Texts};
 use crate::report::Report;
 use crate::rng::Rng;
 use crate::roster_files::{good, sorts};
@@ -147,26 +147,16 @@ fn card_printed(print: &Print) -> Result<String, String> {
 }
 
 fn compare_program(report: &mut Report, sorts: &[Sort<Vec<u8>>], print: &Print) {
-    let mut tally = Sayings::default();
-    for (index, sort) in sorts.iter().enumerate() {
-        let outcome = compare_texts(print, sort, seed(index), &mut tally);
-        report.check(&format!("roster, program: {}", sort.name), outcome);
-    }
+    let texts = Texts {
+        name: "roster",
+        print,
+        due: reference::roster,
+        said: sayings,
+        first_seed: SEED,
+    };
+    let tally = texts.compare(report, sorts);
     let reached = tally.finish(SAYINGS, "files", FEWEST_RUNS);
     report.check("roster, program: what can be said of files", reached);
-}
-
-fn compare_texts(
-    print: &Print,
-    sort: &Sort<Vec<u8>>,
-    seed: u64,
-    tally: &mut Sayings,
-) -> Result<String, String> {
-    let alike = compare_files(print, reference::roster, sort, seed)?;
-    for number in 0..sort.count {
-        tally.note(sayings(&sort.made(seed, number)));
-    }
-    Ok(alike)
 }
 
 /// What is printed for a good file is a good file, for which the same is printed.

@@ -8,7 +8,7 @@ use lib.ListN.{length, drop, drop-of-length-le}
 use Rattle.rules.specs.Lists.{any}
 use Rattle.start_order.specs.Pairs.{pairOf}
 use Rattle.start_order.specs.Call.{above7}
-use Rattle.start_order.proofs.Sets.{or-false}
+use Rattle.start_order.proofs.Pairs.{or-false}
 use Rattle.start_order.proofs.Turns.{one-seen}
 use borrow.Author.Needs.{needs}
 use Rattle.start_order.proofs.in_range.Statement.{statement}
