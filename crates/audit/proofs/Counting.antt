@@ -12,7 +12,8 @@ use lib.Seq.{drop-drop, getD-drop, getD-set-same, getD-set-other}
 use Rattle.rules.specs.Lists.{all, keep}
 use Rattle.rules.specs.Matching.{Entry}
 use Rattle.rules.specs.State.{live, wrote, limitOf}
-use Rattle.rules.specs.Words.{rowStart, zeros, entryAt, entriesAt, decode, rowOk, rowsOk, parties, sound}
+use Rattle.rules.specs.Names.{parties}
+use Rattle.rules.specs.Words.{rowStart, zeros, entryAt, entriesAt, decode, rowOk, rowsOk, sound}
 use Rattle.rules.proofs.BitLaws.{eqb-same}
 use Rattle.rules.proofs.ListLaws.{bool, clash}
 use Rattle.rules.proofs.Rows.{length-zeros}

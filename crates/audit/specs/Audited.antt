@@ -10,7 +10,7 @@ use Rattle.rules.specs.Words.{rowStart, decode, isZero, rowsOk, withinLimits, s
 use Rattle.audit.specs.declared.Finding.{Finding}
 use Rattle.audit.specs.declared.Finding.the-variants.{Unsound, Sound}
 
--- S1 to S9, A1: whether the words are sound and, if so, how many live entries the party has
+-- S1, S2, S4 to S9, A1: whether the words are sound and, if so, how many live entries the party has
 unfoldable pub audited : List ℕ → ℕ → Finding
 audited ws who = cond (sound ws) (Sound (live who (decode ws .entries))) Unsound
 

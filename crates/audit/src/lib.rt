@@ -36,19 +36,17 @@ fn rows_ok(space: &[u64], n: u32, charges: &mut [u32]) -> bool
     true
 }
 
-// S3 to S5: the sixteen holdings words.
+// S4, S5: the eight key words.
 fn holdings_ok(space: &[u64]) -> bool
     requires { ⌜ length (now space) ≡ 1809 ⌝ }
     ensures { λ r. ⌜ r ≡ holdingsOk (decode (now (space .entry))) ⌝ }
 {
     let mut p = 0;
     while p < 8 {
-        let partitions = space[1 + p];
         let keys = space[9 + p];
-        let partition = words::has_bit(partitions, 0);
         let key = words::has_bit(keys, 31);
         let spare = words::has_bit(keys, 63);
-        if !(partition & (key & !spare)) {
+        if !(key & !spare) {
             return false;
         }
         p += 1;
@@ -73,7 +71,7 @@ fn rest_ok(space: &[u64], n: u32) -> bool
     true
 }
 
-// S1 to S9
+// S1, S2, S4 to S9
 pub fn audit(space: &[u64], party: u32) -> Finding
     ensures { λ r. ⌜ r ≡ audited (now (space .entry)) party ⌝ }
 {

@@ -41,3 +41,7 @@ pub on-cleared : (z a b : List ℕ) → 1 ≤ length z → drop 17 z ≡ zeros 1
     → set ((take 1 z ++ a) ++ (b ++ drop 8 (drop 8 (drop 1 z)))) 0 0 ≡ 0 ∷ (a ++ (b ++ zeros 1792))
 on-cleared [] a b h e = absurd (omega arith)
 on-cleared (x ∷ xs) a b h e = ap (λ (l : List ℕ). 0 ∷ (a ++ (b ++ l))) (drop-drop 8 8 xs ∙ e)
+
+-- words that are copied in and fill all the room are all that is there
+pub filled : (src dst after : List ℕ) → length dst ≤ length src → after ≡ src ++ drop (length src) dst → after ≡ src
+filled src dst after h e = e ∙ rw (drop-of-length-le dst h, append-nil) refl

@@ -60,7 +60,7 @@ fn with_all(src: &[u64], dst: &mut [u64], c: u64)
     }
 }
 
-// C1: no entries, the roster's holdings, and the defaults for everyone. Only the rows are cleared, since every other word is
+// C1: no entries, the roster's holdings, and key 0 for everyone. Only the rows are cleared, since every other word is
 // written.
 pub fn fill(space: &mut [u64], roster: &[u64])
     requires { ⌜ (length (now space) ≡ 1809) × (length (now roster) ≡ 16) ⌝ }
@@ -69,7 +69,7 @@ pub fn fill(space: &mut [u64], roster: &[u64])
     let rows = starts::start(0) as usize;
     let end = starts::END as usize;
     edits::clear(&mut space[rows..end]);
-    with_all(&roster[0..8], &mut space[1..9], 0);
+    edits::copy_in(&roster[0..8], &mut space[1..9]);
     with_all(&roster[8..16], &mut space[9..17], 31);
     space[0] = 0;
 }

@@ -6,6 +6,7 @@ use refusal_lines::EMPTY;
 use refusal_lines::KEY;
 use refusal_lines::KIND_6;
 use refusal_lines::PARTITION;
+use refusal_lines::SET_0;
 use refusal_lines::SET_5;
 use refusal_lines::SET_5_6;
 use refusal_lines::SET_6;
@@ -14,11 +15,15 @@ use refusal_lines::WILDCARD;
 
 const BIT_63: u64 = 9223372036854775808;
 
+// Key 0, which is stored as 31, in a key word.
+const KEY_0: u64 = 2147483648;
+
 fn main() {
     open_of_bad_lengths();
     open_of_rosters();
     let words = refusal_lines::opened();
     put_of_unsound(words);
+    put_of_unsound_holdings(words);
     put_of_bad_counts(words);
     put_of_bad_pairs(words);
     put_of_bad_fields(words);
@@ -60,6 +65,19 @@ fn put_of_unsound(words: [u64; 1809]) {
     put_1808(b"1808 words, party 8", words, 8);
 }
 
+fn put_of_unsound_holdings(words: [u64; 1809]) {
+    put_fields(b"party 7 without key 0", with_last_keys(words, 0), &[7]);
+    let text = b"bit 63 in a key word";
+    put_fields(text, with_last_keys(words, BIT_63 + KEY_0), &[7]);
+}
+
+// The key word of party 7.
+fn with_last_keys(words: [u64; 1809], keys: u64) -> [u64; 1809] {
+    let mut damaged = words;
+    damaged[16] = keys;
+    damaged
+}
+
 fn put_of_bad_counts(words: [u64; 1809]) {
     put(b"party 8", words, 8, SET_5, 4, SET_5, 4, &[7]);
     put_fields(b"no field", words, &[]);
@@ -95,6 +113,7 @@ fn put_of_others_read_pairs(words: [u64; 1809]) {
     let text = b"read set of all 64, most not held";
     put_pairs(text, words, SET_OF_ALL, 4, SET_5, 4);
     put_pairs(b"read key -4 not held", words, SET_5, -4, SET_5, 4);
+    put_pairs(b"read set {0}, 0 not held", words, SET_0, 0, SET_5, 4);
 }
 
 fn put_of_others_take_pairs(words: [u64; 1809]) {
@@ -103,11 +122,13 @@ fn put_of_others_take_pairs(words: [u64; 1809]) {
     let text = b"take set of all 64, most not held";
     put_pairs(text, words, SET_5, 4, SET_OF_ALL, 4);
     put_pairs(b"take key -4 not held", words, SET_5, 4, SET_5, -4);
+    put_pairs(b"take set {0}, 0 not held", words, SET_5, 4, SET_0, 0);
 }
 
 fn put_of_others_fields(words: [u64; 1809]) {
     put_fields(b"carried partition 6 not held", words, &[PARTITION + 6]);
     put_fields(b"carried key -4 not held", words, &[KEY + 27]);
+    put_fields(b"carried partition 0 not held", words, &[PARTITION]);
 }
 
 fn put_of_two_others_names(words: [u64; 1809]) {

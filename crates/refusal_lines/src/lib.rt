@@ -28,7 +28,11 @@ pub const KIND_6: u64 = 25769803776;
 // Sets of partitions, in pairs and in holdings.
 pub const EMPTY: u64 = 0;
 
+pub const SET_0: u64 = 1;
+
 pub const SET_5: u64 = 32;
+
+pub const SET_0_5: u64 = 33;
 
 pub const SET_6: u64 = 64;
 
@@ -41,14 +45,14 @@ const KEY_4: u64 = 34359738368;
 
 const KEY_MINUS_4: u64 = 134217728;
 
-// Party 0 holds partition 5 and key 4, and party 1 partition 5 and key -4.
+// Party 0 holds partition 5 and key 4, and party 1 partitions 0 and 5 and key -4.
 pub fn roster() -> [u64; 16]
     ensures { λ r. ⌜ r ≡ roster ⌝ }
 {
     let mut roster = [0u64; 16];
     roster[0] = SET_5;
     roster[8] = KEY_4;
-    roster[1] = SET_5;
+    roster[1] = SET_0_5;
     roster[9] = KEY_MINUS_4;
     roster
 }

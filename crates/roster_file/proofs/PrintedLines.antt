@@ -7,8 +7,7 @@ use mathlib.Core.List.{List, [], _∷_, _++_, map, append-assoc}
 use lib.Dec.{eqb}
 use lib.ListN.{getD}
 use Rattle.rules.specs.Lists.{In}
-use Rattle.rules.specs.Names.{Name, partition, key, bitsIn, heldIn}
-use Rattle.rules.specs.Words.{parties}
+use Rattle.rules.specs.Names.{parties, Name, partition, key, bitsIn, heldIn}
 use Rattle.rules.proofs.Members.{in-left, in-right, append-in, in-map, map-in}
 use Rattle.rules.proofs.SetLaws.{in-bits, bits-in}
 use Rattle.rules.proofs.Loops.{all-append}

@@ -5,8 +5,7 @@ use native.Mathlib.Nat.{le-refl}
 use native.Mathlib.Omega.{arith}
 use lib.ListN.{length, getD, length-append, length-map}
 use Rattle.rules.specs.Lists.{All, from}
-use Rattle.rules.specs.Names.{Name, partition, key, bit, bitsIn}
-use Rattle.rules.specs.Words.{parties}
+use Rattle.rules.specs.Names.{parties, Name, partition, key, bit, bitsIn}
 use Rattle.numbers.specs.Numbers.{decimal}
 use Rattle.numbers.proofs.Keys.{decimal-short, key-short}
 use Rattle.roster_line.specs.Rights.{bitOf}

@@ -10,8 +10,8 @@ use borrow.Author.Tests.{ltb-true, ltb-false}
 use lib.Dec.{ltb}
 use lib.ListN.{getD}
 use Rattle.rules.specs.Lists.{All, In}
-use Rattle.rules.specs.Names.{Name, partition, key, NameInRange, bit}
-use Rattle.rules.specs.Words.{parties, zeros, opening}
+use Rattle.rules.specs.Names.{parties, Name, partition, key, NameInRange, bit}
+use Rattle.rules.specs.Words.{zeros, opening}
 use Rattle.rules.specs.Claims.{Iff}
 use Rattle.rules.proofs.BitLaws.{no-bit}
 use Rattle.rules.proofs.ListLaws.{bool, clash, All-at}

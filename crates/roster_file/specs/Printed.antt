@@ -2,8 +2,7 @@
 use mathlib.Core.List.{List, [], _∷_, _++_, map}
 use Prim.Native.Nat.{ℕ, _+_}
 use lib.ListN.{getD}
-use Rattle.rules.specs.Names.{Name, partition, key, bitsIn}
-use Rattle.rules.specs.Words.{parties}
+use Rattle.rules.specs.Names.{parties, Name, partition, key, bitsIn}
 use Rattle.numbers.specs.Numbers.{decimal, decimalKey, keyOf, refusalText}
 use Rattle.roster_file.specs.File.{Outcome, accepted, refused, namesLine, readFile}
 

@@ -7,8 +7,7 @@ use native.Mathlib.Numerals.{add-one}
 use native.Mathlib.Omega.{arith}
 use lib.ListN.{length, getD}
 use Rattle.rules.specs.Lists.{keep, from}
-use Rattle.rules.specs.Names.{Name, partition, key, bit, bitsIn}
-use Rattle.rules.specs.Words.{parties}
+use Rattle.rules.specs.Names.{parties, Name, partition, key, bit, bitsIn}
 use Rattle.numbers.specs.Numbers.{decimal}
 use Rattle.numbers.proofs.Placed.{Unfinished, begun}
 use Rattle.roster_file.specs.File.{namesLine}

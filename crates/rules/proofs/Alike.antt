@@ -48,7 +48,7 @@ module _ (g : Group) where
   pub view-sym : (s₁ s₂ : State) → SameView g s₁ s₂ → SameView g s₂ s₁
   view-sym s₁ s₂ a = record { held = λ p k. (sym (a .held p k .0), sym (a .held p k .1)); entries = sym (a .entries) }
 
-  member-lt : (p : ℕ) → member g p ≡ true → p < 8
+  pub member-lt : (p : ℕ) → member g p ≡ true → p < 8
   unfolding member
   member-lt p h = ltb→lt p 8 (tOf (and-left (ltb p 8) (g p) h))
 

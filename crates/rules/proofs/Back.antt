@@ -1,7 +1,7 @@
 -- What soundness says, part by part, and that sound words are the words of the state that they stand for.
 use mathlib.Core.Path.{_≡_, refl, sym, ap, ap₂, _∙_}
 use mathlib.Core.Logic.{_⊎_, inl, inr}
-use mathlib.Core.Bool.{Bool, true, false, not, _&&_}
+use mathlib.Core.Bool.{Bool, true, false, _&&_}
 use mathlib.Core.List.{List, [], _∷_, _++_, append-assoc}
 use Prim.Native.Nat.{ℕ, zero, suc, _-_, _*_, _≤_, _<_}
 use native.Mathlib.Omega.{arith}
@@ -10,12 +10,12 @@ use lib.Dec.{leb, eqb, leb→le}
 use lib.ListN.{length, getD, take, drop, length-take, length-drop, take-append-drop}
 use lib.Seq.{drop-drop, take-take, drop-cons}
 use Rattle.rules.specs.Lists.{all, keep, All}
-use Rattle.rules.specs.Names.{bit, defaultPartition, defaultKey}
+use Rattle.rules.specs.Names.{parties}
 use Rattle.rules.specs.Partitions.{sets}
 use Rattle.rules.specs.Fields.{putField}
 use Rattle.rules.specs.Matching.{Entry}
 use Rattle.rules.specs.State.{State, live, limitOf, wrote}
-use Rattle.rules.specs.Words.{zeros, rowOf, rowsOf, encode, entryAt, entriesAt, decode, isZero, rowOk, rowsOk, parties, withinLimits, sound}
+use Rattle.rules.specs.Words.{zeros, rowOf, rowsOf, encode, entryAt, entriesAt, decode, isZero, rowOk, rowsOk, withinLimits, holdingsOk, sound}
 use Rattle.rules.proofs.BitLaws.{tOf, eqb-true}
 use Rattle.rules.proofs.ListLaws.{bool, and-left, and-right, all-true}
 use Rattle.rules.proofs.Rows.{EntryOk, WF}
@@ -138,27 +138,19 @@ limits-back s h a p = go (decLt p 8)
 pub record SoundFacts (ws : List ℕ) : Type 0 where
   pub len : length ws ≡ 1809
   pub count : getD ws 0 0 ≤ 128
-  pub partitions0 : all (λ w. bit w defaultPartition) (decode ws .partitions) ≡ true
-  pub keys0 : all (λ w. bit w defaultKey) (decode ws .keys) ≡ true
-  pub keys63 : all (λ w. not (bit w 63)) (decode ws .keys) ≡ true
+  pub holdings : holdingsOk (decode ws) ≡ true
   pub rows : rowsOk (getD ws 0 0) (drop 17 ws) ≡ true
   pub limits : withinLimits (decode ws) ≡ true
 
 pub sound-facts : (ws : List ℕ) → sound ws ≡ true → SoundFacts ws
 unfolding sound
 sound-facts ws h =
-    let a₀ : Bool = all (λ w. bit w defaultPartition) (decode ws .partitions) in
-    let a₁ : Bool = all (λ w. bit w defaultKey) (decode ws .keys) in
-    let a₂ : Bool = all (λ w. not (bit w 63)) (decode ws .keys) in
-    let rest = leb (getD ws 0 0) 128 ∷ joined a₀ (a₁ ∷ a₂ ∷ []) ∷ rowsOk (getD ws 0 0) (drop 17 ws) ∷ withinLimits (decode ws) ∷ [] in
+    let rest = leb (getD ws 0 0) 128 ∷ holdingsOk (decode ws) ∷ rowsOk (getD ws 0 0) (drop 17 ws) ∷ withinLimits (decode ws) ∷ [] in
     let q = each (eqb (length ws) 1809) rest h in
-    let v = each a₀ (a₁ ∷ a₂ ∷ []) (q .1 .1 .0) in
     record {
       len = eqb-true (length ws) 1809 (q .0);
       count = leb-le (q .1 .0);
-      partitions0 = v .0;
-      keys0 = v .1 .0;
-      keys63 = v .1 .1 .0;
+      holdings = q .1 .1 .0;
       rows = q .1 .1 .1 .0;
       limits = q .1 .1 .1 .1 .0;
     }
@@ -181,9 +173,7 @@ module _ (ws : List ℕ) (h : sound ws ≡ true) where
       record {
         partitionsLen = length-take 8 (drop 1 ws) ∙ rw (length-drop 1 ws) (omega arith);
         keysLen = length-take 8 (drop 9 ws) ∙ rw (length-drop 9 ws) (omega arith);
-        partitions0 = facts .partitions0;
-        keys0 = facts .keys0;
-        keys63 = facts .keys63;
+        holdings = facts .holdings;
         rows = rows-of .0;
         limits = limits-back (decode ws) (rows-of .0) (facts .limits);
       }

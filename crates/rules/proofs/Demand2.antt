@@ -32,6 +32,7 @@ use Rattle.rules.proofs.Kept.{live-amid, wf-serve, few-rows}
 use Rattle.rules.proofs.Back.{each, wf-decode}
 use Rattle.rules.proofs.FieldLaws.{without-bound}
 use Rattle.rules.proofs.Gifts.{giveAll-entries}
+use Rattle.rules.proofs.Openings.{opened-entries}
 use Rattle.rules.proofs.WordRuns.{back, Opened, open-done}
 use Rattle.rules.proofs.Decided.{callBy, call-by, passes-table, passes-call, passes-left, call-leaves}
 
@@ -336,7 +337,6 @@ run-recorded [] ws ls e = e
 run-recorded (c ∷ cs) ws ls e = run-recorded cs (call ws c .space) (recorded c (call ws c .answer) ls) (call-recorded ws c ls e)
 
 pub live-are-the-puts-not-taken : LiveAreThePutsNotTaken
-unfolding opened
 live-are-the-puts-not-taken old roster d cs who =
     let o : Opened (opening old roster) roster = open-done old roster d in
-    ap (keep (wrote who)) (run-recorded cs (opening old roster .space) [] (rw (o .words, back (opened roster) (o .wf)) refl))
+    ap (keep (wrote who)) (run-recorded cs (opening old roster .space) [] (rw (o .words, back (opened roster) (o .wf)) (opened-entries roster)))

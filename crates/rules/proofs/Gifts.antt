@@ -1,19 +1,19 @@
 -- What the gift of a name changes: a word of the party that gains it, and nothing else.
-use mathlib.Core.Path.{_≡_, refl, sym, ap, _∙_, subst}
+use mathlib.Core.Path.{_≡_, refl, sym, ap, ap₂, _∙_, subst}
 use mathlib.Core.Logic.{_⊎_, inl, inr, _≢_}
 use mathlib.Core.Bool.{true}
-use mathlib.Core.List.{List, [], _∷_}
-use Prim.Native.Nat.{ℕ, _<_}
+use mathlib.Core.List.{List, [], _∷_, map}
+use Prim.Native.Nat.{ℕ, suc, _+_, _<_}
 use native.Mathlib.Omega.{arith}
 use native.Mathlib.Decide.{ℕ-discrete}
 use lib.ListN.{length, getD, set, length-set}
 use lib.Seq.{getD-set-same, getD-set-other}
-use Rattle.rules.specs.Lists.{In}
-use Rattle.rules.specs.Names.{Name, partition, key, heldIn, withBit}
-use Rattle.rules.specs.State.{State, holds, give, giveAll}
+use Rattle.rules.specs.Lists.{In, from}
+use Rattle.rules.specs.Names.{parties, Name, partition, key, heldIn, withBit}
+use Rattle.rules.specs.State.{State, holds, give, giveAll, giveEach}
 use Rattle.rules.proofs.BitLaws.{bit-set, bit-self, bit-set-kept}
 
-give-entries : (who : ℕ) (n : Name) (s : State) → give who n s .entries ≡ s .entries
+pub give-entries : (who : ℕ) (n : Name) (s : State) → give who n s .entries ≡ s .entries
 unfolding give
 give-entries who (partition c) s = refl
 give-entries who (key k) s = refl
@@ -26,7 +26,7 @@ giveAll-entries who (n ∷ ns) s = giveAll-entries who ns (give who n s) ∙ giv
 abbrev pub EightEach : State → Type 0
 EightEach s = (length (s .partitions) ≡ 8) × (length (s .keys) ≡ 8)
 
-give-eight : (who : ℕ) (n : Name) (s : State) → EightEach s → EightEach (give who n s)
+pub give-eight : (who : ℕ) (n : Name) (s : State) → EightEach s → EightEach (give who n s)
 unfolding give
 give-eight who (partition c) s h = (length-set (s .partitions) who _ ∙ h .0, h .1)
 give-eight who (key k) s h = (h .0, length-set (s .keys) who _ ∙ h .1)
@@ -72,7 +72,7 @@ holds-giveAll who p (n ∷ ns) m s h =
     ]
 
 -- and what was held before, and the gift, is held after it
-give-kept : (who p : ℕ) (n m : Name) (s : State) → holds s p m ≡ true → holds (give who n s) p m ≡ true
+pub give-kept : (who p : ℕ) (n m : Name) (s : State) → holds s p m ≡ true → holds (give who n s) p m ≡ true
 unfolding give holds heldIn
 give-kept who p (partition c) (partition d) s h = bit-set-kept (s .partitions) who p c d h
 give-kept who p (partition c) (key d) s h = h
@@ -92,6 +92,63 @@ pub giveAll-has : (who : ℕ) (ns : List Name) (m : Name) (s : State) → who < 
 giveAll-has who [] m s w l i = absurd i
 giveAll-has who (n ∷ ns) m s w l (inl e) = giveAll-kept who who ns m (give who n s) (rw (← e) (give-has who n s w l))
 giveAll-has who (n ∷ ns) m s w l (inr i) = giveAll-has who ns m (give who n s) w (give-eight who n s l) i
+
+-- ---- the same gifts to each of several parties
+
+pub giveEach-entries : (whos : List ℕ) (ns : List Name) (s : State) → giveEach whos ns s .entries ≡ s .entries
+giveEach-entries [] ns s = refl
+giveEach-entries (who ∷ whos) ns s = giveEach-entries whos ns (giveAll who ns s) ∙ giveAll-entries who ns s
+
+pub giveEach-eight : (whos : List ℕ) (ns : List Name) (s : State) → EightEach s → EightEach (giveEach whos ns s)
+giveEach-eight [] ns s h = h
+giveEach-eight (who ∷ whos) ns s h = giveEach-eight whos ns (giveAll who ns s) (giveAll-eight who ns s h)
+
+pub holds-giveEach : (whos : List ℕ) (p : ℕ) (ns : List Name) (m : Name) (s : State) → holds (giveEach whos ns s) p m ≡ true
+    → (holds s p m ≡ true) ⊎ In m ns
+holds-giveEach [] p ns m s h = inl h
+holds-giveEach (who ∷ whos) p ns m s h =
+    elim (holds-giveEach whos p ns m (giveAll who ns s) h) [ inl a ↦ holds-giveAll who p ns m s a | inr i ↦ inr i ]
+
+pub giveEach-kept : (whos : List ℕ) (p : ℕ) (ns : List Name) (m : Name) (s : State) → holds s p m ≡ true → holds (giveEach whos ns s) p m ≡ true
+giveEach-kept [] p ns m s h = h
+giveEach-kept (who ∷ whos) p ns m s h = giveEach-kept whos p ns m (giveAll who ns s) (giveAll-kept who p ns m s h)
+
+pub giveEach-has : (whos : List ℕ) (p : ℕ) (ns : List Name) (m : Name) (s : State) → In p whos → p < 8 → EightEach s → In m ns
+    → holds (giveEach whos ns s) p m ≡ true
+giveEach-has [] p ns m s i w l j = absurd i
+giveEach-has (who ∷ whos) p ns m s (inl e) w l j =
+    giveEach-kept whos p ns m (giveAll who ns s) (rw (← e) (giveAll-has who ns m s (rw e w) l j))
+giveEach-has (who ∷ whos) p ns m s (inr i) w l j = giveEach-has whos p ns m (giveAll who ns s) i w (giveAll-eight who ns s l) j
+
+-- a list is its words, one after the other
+spelled : (l : List ℕ) (at : ℕ → ℕ) (i : ℕ) → ((j : ℕ) → getD l j 0 ≡ at (i + j)) → l ≡ map at (from i (length l))
+spelled [] at i h = refl
+spelled (x ∷ l) at i h =
+    let first : x ≡ at i = h 0 ∙ ap at (omega arith) in
+    let rest : l ≡ map at (from (suc i) (length l)) = spelled l at (suc i) (λ j. h (suc j) ∙ ap at (omega arith)) in
+    ap₂ (λ (y : ℕ) (ys : List ℕ). y ∷ ys) first rest
+
+eight-words : (l : List ℕ) → length l ≡ 8 → l ≡ map (λ i. getD l i 0) (from 0 8)
+eight-words l h = spelled l (λ i. getD l i 0) 0 (λ j. ap (λ (i : ℕ). getD l i 0) (omega arith)) ∙ ap (λ n. map (λ i. getD l i 0) (from 0 n)) h
+
+-- a name given to each of the parties in turn is its bit set in all their words
+pub each-partition : (c : ℕ) (s : State) → length (s .partitions) ≡ 8
+    → giveEach parties (partition c ∷ []) s ≡ record { partitions = map (λ w. withBit w c) (s .partitions); keys = s .keys; entries = s .entries }
+unfolding give
+each-partition c s h =
+    let e : s .partitions ≡ map (λ i. getD (s .partitions) i 0) (from 0 8) = eight-words (s .partitions) h in
+    let left : List ℕ → State = λ ws. giveEach parties (partition c ∷ []) (record { partitions = ws; keys = s .keys; entries = s .entries }) in
+    let right : List ℕ → State = λ ws. record { partitions = map (λ w. withBit w c) ws; keys = s .keys; entries = s .entries } in
+    ap left e ∙ sym (ap right e)
+
+pub each-key : (k : ℕ) (s : State) → length (s .keys) ≡ 8
+    → giveEach parties (key k ∷ []) s ≡ record { partitions = s .partitions; keys = map (λ w. withBit w k) (s .keys); entries = s .entries }
+unfolding give
+each-key k s h =
+    let e : s .keys ≡ map (λ i. getD (s .keys) i 0) (from 0 8) = eight-words (s .keys) h in
+    let left : List ℕ → State = λ ws. giveEach parties (key k ∷ []) (record { partitions = s .partitions; keys = ws; entries = s .entries }) in
+    let right : List ℕ → State = λ ws. record { partitions = s .partitions; keys = map (λ w. withBit w k) ws; entries = s .entries } in
+    ap left e ∙ sym (ap right e)
 
 -- the same change to a word of each of two lists
 set-alike : (l₁ l₂ : List ℕ) (f : ℕ → ℕ) (who p : ℕ) → who < length l₁ → who < length l₂

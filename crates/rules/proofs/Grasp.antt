@@ -32,7 +32,7 @@ use Rattle.rules.proofs.StateRuns.{step-cases, serve-unrefused}
 
 -- ---- what a call that no test turns away has
 
-passed-holds : (s : State) (c : Call ℕ) → firstThatApplies (table sets s c) ≡ none → all (holds s (partyOf c)) (callNames c) ≡ true
+pub passed-holds : (s : State) (c : Call ℕ) → firstThatApplies (table sets s c) ≡ none → all (holds s (partyOf c)) (callNames c) ≡ true
 unfolding putTable seekTable
 passed-holds s (put who r t fs) h =
     let a = passed (putTable sets s who r t fs) h .1 .1 .1 .1 in

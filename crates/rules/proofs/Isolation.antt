@@ -5,8 +5,7 @@ use mathlib.Core.Logic.{_⊎_, inl, inr}
 use mathlib.Core.Bool.{true, false}
 use mathlib.Core.List.{List, [], _∷_}
 use Prim.Native.Nat.{ℕ, zero, suc}
-use native.Mathlib.Omega.{arith}
-use lib.ListN.{length, take, drop, length-map, length-take, length-drop}
+use lib.ListN.{length, take}
 use Rattle.rules.specs.Lists.{keep}
 use Rattle.rules.specs.Names.{Name}
 use Rattle.rules.specs.Partitions.{sets}
@@ -16,6 +15,7 @@ use Rattle.rules.specs.Runs.{stateRun, stateReplies}
 use Rattle.rules.specs.Group.{Group, member, byGroup, GroupName, SameHoldings}
 use Rattle.rules.proofs.ListLaws.{bool}
 use Rattle.rules.proofs.Gifts.{holds-same}
+use Rattle.rules.proofs.Openings.{opened-entries, opened-eight}
 use Rattle.rules.proofs.StateRuns.{StateOutOfGrasp, StateIsolated}
 use Rattle.rules.proofs.Grasp.{Closed, closed-own, closed-other}
 use Rattle.rules.proofs.Alike.{SameView, SameOutcome, view-refl, view-trans, view-sym, own-alike, other-unseen}
@@ -56,17 +56,11 @@ module _ (g : Group) (N : Name → Type 0) where
   -- an opening has no entries yet
   closed-opened : (roster : List ℕ) → length roster ≡ 16
       → ((p : ℕ) (n : Name) → member g p ≡ true → holds (opened roster) p n ≡ true → N n) → Closed g N (opened roster)
-  unfolding opened
-  closed-opened roster l h =
-      record {
-        eight = (length-map (take 8 roster) _ ∙ length-take 8 roster ∙ omega arith, length-map (drop 8 roster) _ ∙ length-drop 8 roster ∙ omega arith);
-        inside = h;
-        apart = tt;
-      }
+  closed-opened roster l h = record { eight = opened-eight roster l; inside = h; apart = rw (opened-entries roster) tt }
 
 opened-view : (g : Group) (roster₁ roster₂ : List ℕ) → SameHoldings g (opened roster₁) (opened roster₂) → SameView g (opened roster₁) (opened roster₂)
-unfolding opened
-opened-view g roster₁ roster₂ h = record { held = λ p k. (h .samePartitions p k, h .sameKeys p k); entries = refl }
+opened-view g roster₁ roster₂ h =
+    record { held = λ p k. (h .samePartitions p k, h .sameKeys p k); entries = rw (opened-entries roster₁, opened-entries roster₂) refl }
 
 pub state-isolation : (g : Group) (roster₁ roster₂ : List ℕ) → length roster₁ ≡ 16 → length roster₂ ≡ 16
     → SameHoldings g (opened roster₁) (opened roster₂)

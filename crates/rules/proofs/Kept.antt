@@ -1,28 +1,35 @@
 -- Every call, and every opening, leaves a state that the layout can hold, and 128 rows suffice for it.
-use mathlib.Core.Path.{_≡_, refl, _∙_}
+use mathlib.Core.Path.{_≡_, refl, sym, _∙_}
 use mathlib.Core.Logic.{_⊎_, inl, inr, _≢_}
-use mathlib.Core.Bool.{Bool, true, false, not, cond, true≢false, false≢true}
+use mathlib.Core.Bool.{Bool, true, false, not, _&&_, cond, true≢false, false≢true}
 use mathlib.Core.Option.{Option, none, some}
-use mathlib.Core.List.{List, [], _∷_, _++_, append-nil, map}
+use mathlib.Core.List.{List, [], _∷_, _++_, append-nil}
 use Prim.Native.Nat.{ℕ, zero, suc, _+_, _*_, _≤_, _<_, suc-le-suc}
 use native.Mathlib.Omega.{arith}
 use native.Mathlib.Nat.{le-refl, le-trans, le-suc, not-suc-le-zero}
 use lib.Dec.{T, leb, ltb, eqb, nleb→lt, nltb→le}
 use lib.IntN.{ℤ}
-use lib.ListN.{length, getD, set, take, drop, length-append, length-set, length-map, length-take, length-drop}
-use Rattle.rules.specs.Lists.{all, keep, first, without, All}
-use Rattle.rules.specs.Names.{Name, partition, key, NameInRange, keyInRange, bit, withBit, defaultPartition, defaultKey}
+use lib.ListN.{length, getD, set, drop, length-append}
+use Rattle.rules.specs.Lists.{all, keep, first, without, All, In}
+use Rattle.rules.specs.Names.{parties, Name, partition, key, NameInRange, keyInRange, bit, withBit, commonNames}
 use Rattle.rules.specs.Partitions.{sets}
 use Rattle.rules.specs.Fields.{Field, message, name, wildcard, atLeast, atMost, bad, field, putField, nameIn, namesIn}
 use Rattle.rules.specs.Matching.{Pair, storedPair, Entry, Op, matches}
-use Rattle.rules.specs.State.{State, give, giveAll, withEntries, wrote, live, limitOf}
+use Rattle.rules.specs.State.{State, holds, give, giveAll, giveEach, everyoneHolds, withEntries, wrote, live, limitOf}
 use Rattle.rules.specs.Calls.{Call, put, seek, partyOf, firstThatApplies, badPair, putTable, seekTable, table}
 use Rattle.rules.specs.Calls.{entryOf, removes, remaining, grants, gained, finding, serve, decided, step, opened}
-use Rattle.rules.proofs.BitLaws.{eqb-true, eqb-same, bit-with, bit-kept, bit-self}
-use Rattle.rules.proofs.ListLaws.{bool, clash, and-left, and-right, or-left, or-right, not-false, passed, All-map, All-snoc, All-without, keep-append}
+use Rattle.rules.specs.Words.{holdingsOk}
+use Rattle.rules.proofs.BitLaws.{eqb-true, eqb-same, bit-with}
+use Rattle.rules.proofs.ListLaws.{bool, clash, and-left, and-right, or-left, or-right, not-false, passed, all-of, all-implied, All-map, All-snoc, All-without, keep-append}
+use Rattle.rules.proofs.Members.{All-in, from-in}
 use Rattle.rules.proofs.KeyLaws.{stored-le}
 use Rattle.rules.proofs.FieldLaws.{name-words}
+use Rattle.rules.proofs.Gifts.{give-entries, EightEach, give-eight, holds-same, give-kept, giveEach-has}
+use Rattle.rules.proofs.Openings.{listed, listed-eight, opened-entries, opened-eight}
 use Rattle.rules.proofs.Rows.{PairOk, EntryOk, WF}
+
+both : {a b : Bool} → a ≡ true → b ≡ true → (a && b) ≡ true
+both p q = rw p q
 
 tNot : {b : Bool} → b ≡ false → T (not b)
 tNot e = rw e tt
@@ -126,27 +133,72 @@ clear63 w k l h = go (bool (bit (withBit w k) 63))
     go (inl e) = absurd (never (bit-with w k 63 e))
     go (inr e) = rw e refl
 
-wf-give : (who : ℕ) (n : Name) (s : State) → NameInRange n → WF s → WF (give who n s)
+-- bit 63 of each key word is clear
+abbrev Clear63 : State → Type 0
+Clear63 s = all (λ w. not (bit w 63)) (s .keys) ≡ true
+
+give-clear : (who : ℕ) (n : Name) (s : State) → NameInRange n → Clear63 s → Clear63 (give who n s)
 unfolding give
-wf-give who (partition c) s o h =
+give-clear who (partition c) s o h = h
+give-clear who (key k) s o h = all-set (λ w. not (bit w 63)) (λ w. withBit w k) (λ w e. clear63 w k o e) (s .keys) who h
+
+giveAll-clear : (who : ℕ) (ns : List Name) (s : State) → All NameInRange ns → Clear63 s → Clear63 (giveAll who ns s)
+giveAll-clear who [] s o h = h
+giveAll-clear who (n ∷ ns) s o h = giveAll-clear who ns (give who n s) (o .1) (give-clear who n s (o .0) h)
+
+giveEach-clear : (whos : List ℕ) (ns : List Name) (s : State) → All NameInRange ns → Clear63 s → Clear63 (giveEach whos ns s)
+giveEach-clear [] ns s o h = h
+giveEach-clear (who ∷ whos) ns s o h = giveEach-clear whos ns (giveAll who ns s) o (giveAll-clear who ns s o h)
+
+-- ---- opening
+
+pub everyone-given : (ns : List Name) (s : State) → EightEach s → everyoneHolds ns (giveEach parties ns s) ≡ true
+everyone-given ns s h =
+    all-of (λ who. all (holds (giveEach parties ns s) who) ns) parties
+    (All-in (λ who. all (holds (giveEach parties ns s) who) ns ≡ true) parties (λ who i. all-of (holds (giveEach parties ns s) who) ns (each who i)))
+  where
+    each : (who : ℕ) → In who parties → All (λ n. holds (giveEach parties ns s) who n ≡ true) ns
+    each who i = All-in (λ n. holds (giveEach parties ns s) who n ≡ true) ns (λ n j. giveEach-has parties who ns n s i (from-in who 0 8 i) h j)
+
+pub wf-opened : (roster : List ℕ) → length roster ≡ 16 → all (λ w. not (bit w 63)) (drop 8 roster) ≡ true → WF (opened roster)
+unfolding opened live
+wf-opened roster l h =
+    let eight : EightEach (opened roster) = opened-eight roster l in
     record {
-      partitionsLen = length-set (s .partitions) who _ ∙ h .partitionsLen;
-      keysLen = h .keysLen;
-      partitions0 = all-set (λ w. bit w defaultPartition) (λ w. withBit w c) (λ w e. bit-kept w c defaultPartition e) (s .partitions) who (h .partitions0);
-      keys0 = h .keys0;
-      keys63 = h .keys63;
-      rows = h .rows;
-      limits = h .limits;
+      partitionsLen = eight .0;
+      keysLen = eight .1;
+      holdings = both (everyone-given commonNames (listed roster) (listed-eight roster l)) clear;
+      rows = rw (opened-entries roster) tt;
+      limits = λ p. rw (opened-entries roster) (omega arith);
     }
-wf-give who (key k) s o h =
+  where
+    clear : Clear63 (opened roster)
+    clear = giveEach-clear parties commonNames (listed roster) (omega arith, tt) h
+
+-- ---- gifts
+
+-- what everyone holds, everyone holds in a state that takes nothing away
+pub everyone-keeps : (ns : List Name) (s s′ : State) → ((p : ℕ) (m : Name) → holds s p m ≡ true → holds s′ p m ≡ true)
+    → everyoneHolds ns s ≡ true → everyoneHolds ns s′ ≡ true
+everyone-keeps ns s s′ h =
+    all-implied (λ who. all (holds s who) ns) (λ who. all (holds s′ who) ns) (λ who. all-implied (holds s who) (holds s′ who) (h who) ns) parties
+
+holdings-keep : (s s′ : State) → ((p : ℕ) (m : Name) → holds s p m ≡ true → holds s′ p m ≡ true) → (Clear63 s → Clear63 s′)
+    → holdingsOk s ≡ true → holdingsOk s′ ≡ true
+holdings-keep s s′ k c h =
+    let common : Bool = everyoneHolds commonNames s in
+    let clear : Bool = all (λ w. not (bit w 63)) (s .keys) in
+    both (everyone-keeps commonNames s s′ k (and-left common clear h)) (c (and-right common clear h))
+
+wf-give : (who : ℕ) (n : Name) (s : State) → NameInRange n → WF s → WF (give who n s)
+wf-give who n s o h =
+    let eight : EightEach (give who n s) = give-eight who n s (h .partitionsLen, h .keysLen) in
     record {
-      partitionsLen = h .partitionsLen;
-      keysLen = length-set (s .keys) who _ ∙ h .keysLen;
-      partitions0 = h .partitions0;
-      keys0 = all-set (λ w. bit w defaultKey) (λ w. withBit w k) (λ w e. bit-kept w k defaultKey e) (s .keys) who (h .keys0);
-      keys63 = all-set (λ w. not (bit w 63)) (λ w. withBit w k) (λ w e. clear63 w k o e) (s .keys) who (h .keys63);
-      rows = h .rows;
-      limits = h .limits;
+      partitionsLen = eight .0;
+      keysLen = eight .1;
+      holdings = holdings-keep s (give who n s) (λ p m. give-kept who p n m s) (give-clear who n s o) (h .holdings);
+      rows = rw (give-entries who n s) (h .rows);
+      limits = rw (give-entries who n s) (h .limits);
     }
 
 pub wf-giveAll : (who : ℕ) (ns : List Name) (s : State) → All NameInRange ns → WF s → WF (giveAll who ns s)
@@ -158,16 +210,14 @@ wf-with es s h r l =
     record {
       partitionsLen = h .partitionsLen;
       keysLen = h .keysLen;
-      partitions0 = h .partitions0;
-      keys0 = h .keys0;
-      keys63 = h .keys63;
+      holdings = holdings-keep s (withEntries es s) (λ p m e. sym (holds-same p s (withEntries es s) (refl, refl) m) ∙ e) (λ c. c) (h .holdings);
       rows = r;
       limits = l;
     }
 
 -- ---- the calls
 
-pair-ok : (p : Pair ℤ) → badPair sets p ≡ false → PairOk (storedPair p)
+pub pair-ok : (p : Pair ℤ) → badPair sets p ≡ false → PairOk (storedPair p)
 pair-ok p h =
     record {
       partitionsOk = not-false (sets .inRange (p .partitions)) (or-left (not (sets .inRange (p .partitions))) (not (keyInRange (p .key))) h);
@@ -250,29 +300,6 @@ wf-step s c h = go (firstThatApplies (table sets s c)) refl
     go : (o : Option ℕ) → firstThatApplies (table sets s c) ≡ o → WF (decided o (serve sets s c) s .state)
     go (some n) q = h
     go none q = wf-serve s c h q
-
--- ---- opening
-
-all-map : (f : ℕ → Bool) (u : ℕ → ℕ) → ((w : ℕ) → f w ≡ true → f (u w) ≡ true) → (l : List ℕ) → all f l ≡ true → all f (map u l) ≡ true
-all-map f u h [] e = refl
-all-map f u h (w ∷ l) e = rw (h w (and-left (f w) (all f l) e)) (all-map f u h l (and-right (f w) (all f l) e))
-
-all-withBit : (c : ℕ) (l : List ℕ) → all (λ w. bit w c) (map (λ w. withBit w c) l) ≡ true
-all-withBit c [] = refl
-all-withBit c (w ∷ l) = rw (bit-self w c) (all-withBit c l)
-
-pub wf-opened : (roster : List ℕ) → length roster ≡ 16 → all (λ w. not (bit w 63)) (drop 8 roster) ≡ true → WF (opened roster)
-unfolding opened live
-wf-opened roster l h =
-    record {
-      partitionsLen = length-map (take 8 roster) _ ∙ length-take 8 roster ∙ omega arith;
-      keysLen = length-map (drop 8 roster) _ ∙ length-drop 8 roster ∙ omega arith;
-      partitions0 = all-withBit defaultPartition (take 8 roster);
-      keys0 = all-withBit defaultKey (drop 8 roster);
-      keys63 = all-map (λ w. not (bit w 63)) (λ w. withBit w defaultKey) (λ w e. clear63 w defaultKey (omega arith) e) (drop 8 roster) h;
-      rows = tt;
-      limits = λ p. omega arith;
-    }
 
 -- ---- the 128 rows suffice
 

@@ -6,10 +6,11 @@ pub mod KeyLaws
 pub mod FieldLaws
 pub mod Loops
 pub mod Rows
+pub mod Gifts
+pub mod Openings
 pub mod Kept
 pub mod Back
 pub mod Edits
-pub mod Gifts
 pub mod StateRuns
 pub mod NameTests
 pub mod Grasp
@@ -24,4 +25,5 @@ pub mod Demand2
 pub mod Looks
 pub mod Holdings
 pub mod OneEach
+pub mod Rosters
 pub mod Cases

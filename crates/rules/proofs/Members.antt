@@ -73,6 +73,11 @@ module _ {A : Type 0} where
   some-in P x (y ∷ l) (inl e) h = inl (subst P (sym e) h)
   some-in P x (y ∷ l) (inr i) h = inr (some-in P x l i h)
 
+  pub some-has : (P : A → Type 0) (l : List A) → Some P l → (x : A) × (In x l × P x)
+  some-has P [] h = absurd h
+  some-has P (y ∷ l) (inl p) = (y, (inl refl, p))
+  some-has P (y ∷ l) (inr s) = let k = some-has P l s in (k .0, (inr (k .1 .0), k .1 .1))
+
   pub any-in : (p : A → Bool) (l : List A) → any p l ≡ true → (x : A) × (In x l × (p x ≡ true))
   any-in p [] h = absurd (false≢true h)
   any-in p (y ∷ l) h = go (bool (p y)) (any-in p l)

@@ -207,7 +207,7 @@ asked-singles (put who r t fs ∷ cs) h = (h .0, asked-singles cs (h .1))
 asked-singles (seek op who p t result ∷ cs) h = (h .0, asked-singles cs (h .1))
 
 pub one-partition-each : OnePartitionEach
-unfolding opened
+unfolding give opened
 one-partition-each old roster d cs h =
     let o : Opened (opening old roster) roster = open-done old roster d in
     rw (o .words)

@@ -1,6 +1,6 @@
 -- The layout: what is encoded is decoded again, and is sound.
 use mathlib.Core.Path.{_≡_, refl, sym, ap, ap₂, _∙_}
-use mathlib.Core.Bool.{true, not}
+use mathlib.Core.Bool.{true}
 use mathlib.Core.List.{List, [], _∷_, _++_, append-assoc}
 use Prim.Native.Nat.{ℕ, zero, suc, _+_, _-_, _*_, _≤_}
 use native.Mathlib.Omega.{arith}
@@ -8,12 +8,11 @@ use lib.Dec.{leb, le→leb}
 use lib.ListN.{length, getD, take, drop, length-append, length-replicate}
 use lib.Seq.{drop-drop, take-append-seam, drop-append-seam, take-at, drop-at}
 use Rattle.rules.specs.Lists.{all, All}
-use Rattle.rules.specs.Names.{bit, defaultPartition, defaultKey}
 use Rattle.rules.specs.Partitions.{sets}
 use Rattle.rules.specs.Fields.{putField}
 use Rattle.rules.specs.Matching.{Pair, Entry}
 use Rattle.rules.specs.State.{State, live, limitOf}
-use Rattle.rules.specs.Words.{zeros, rowOf, rowsOf, encode, entryAt, entriesAt, decode, isZero, rowOk, rowsOk, sound}
+use Rattle.rules.specs.Words.{zeros, rowOf, rowsOf, encode, entryAt, entriesAt, decode, isZero, rowOk, rowsOk, holdingsOk, sound}
 use Rattle.rules.proofs.BitLaws.{ofT}
 
 -- a pair that a row can hold
@@ -34,9 +33,7 @@ pub record EntryOk (e : Entry) : Type 0 where
 pub record WF (s : State) : Type 0 where
   pub partitionsLen : length (s .partitions) ≡ 8
   pub keysLen : length (s .keys) ≡ 8
-  pub partitions0 : all (λ w. bit w defaultPartition) (s .partitions) ≡ true
-  pub keys0 : all (λ w. bit w defaultKey) (s .keys) ≡ true
-  pub keys63 : all (λ w. not (bit w 63)) (s .keys) ≡ true
+  pub holdings : holdingsOk s ≡ true
   pub rows : All EntryOk (s .entries)
   pub limits : (p : ℕ) → live p (s .entries) ≤ limitOf s p
 
@@ -157,9 +154,7 @@ sound-encode s h few =
       enc-count s h few,
       leb-true few,
       decode-encode s h few,
-      h .partitions0,
-      h .keys0,
-      h .keys63,
+      h .holdings,
       enc-rows s h few,
       rows-ok (s .entries) (h .rows) (14 * (128 - length (s .entries))),
     )

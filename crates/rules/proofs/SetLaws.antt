@@ -125,6 +125,10 @@ apart-bits a b h f = same-bits 64 (bitAnd a b) 0 (and-word a b h) (omega arith) 
     go c l (inl e) = rw (e, f c l e) refl
     go c l (inr e) = rw e refl
 
+-- a word without a bit is 0
+pub no-bits : (w : ℕ) → w < 2 ^ 64 → ((c : ℕ) → c < 64 → bit w c ≡ false) → w ≡ 0
+no-bits w h f = same-bits 64 w 0 h (omega arith) (λ c l. digit-of w 0 c (f c l ∙ sym (zero-bit c)))
+
 -- M3: the sets share a partition exactly if their words have a bit in common
 pub agree-and : (t e : ℕ) → t < 2 ^ 64 → not (eqb (bitAnd t e) 0) ≡ setsAgree t e
 agree-and t e h = same-truth (not (eqb (bitAnd t e) 0)) (setsAgree t e) there back-again

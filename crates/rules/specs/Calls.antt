@@ -7,11 +7,11 @@ use lib.Dec.{leb, ltb, eqb}
 use lib.IntN.{ℤ}
 use lib.ListN.{length, take, drop}
 use Rattle.rules.specs.Lists.{all, first, without}
-use Rattle.rules.specs.Names.{Name, key, keyInRange, withBit, defaultPartition, defaultKey}
+use Rattle.rules.specs.Names.{parties, Name, key, keyInRange, commonNames}
 use Rattle.rules.specs.Fields.{putField, templateField, namesIn}
 use Rattle.rules.specs.Partitions.{Reading}
 use Rattle.rules.specs.Matching.{Pair, storedPair, Entry, Op, looking, receiving, taking, matches}
-use Rattle.rules.specs.State.{State, holds, giveAll, withEntries, live, limitOf}
+use Rattle.rules.specs.State.{State, holds, giveAll, giveEach, withEntries, live, limitOf}
 
 -- G2: a call after the opening. R is what a look, receive or take has of its result words: the words themselves where it is made,
 -- their number alone where calls are compared
@@ -162,11 +162,10 @@ module _ (R : Reading) where
   unfoldable pub step : State → Call ℕ → Outcome
   step s c = decided (firstThatApplies (table R s c)) (serve s c) s
 
--- C1: the state that an opening leaves: the roster's holdings, partition 0 and key 0 for everyone, no entries
+-- C1: no entries, and each party holds what the roster lists for it and, besides, the names
+abbrev pub openedWith : List Name → List ℕ → State
+openedWith names roster = giveEach parties names (record { partitions = take 8 roster; keys = drop 8 roster; entries = [] })
+
+-- C1: the state that an opening leaves
 unfoldable pub opened : List ℕ → State
-opened roster =
-    record {
-      partitions = map (λ w. withBit w defaultPartition) (take 8 roster);
-      keys = map (λ w. withBit w defaultKey) (drop 8 roster);
-      entries = [];
-    }
+opened roster = openedWith commonNames roster

@@ -5,7 +5,7 @@ use mathlib.Core.List.{List, [], _∷_, _++_}
 use Prim.Native.Nat.{ℕ, zero, suc, _*_, _^_}
 use lib.IntN.{ℤ, pos, negsuc}
 use Rattle.rules.specs.Lists.{All}
-use Rattle.rules.specs.Names.{Name, partition, key, coKey, stored}
+use Rattle.rules.specs.Names.{Name, partition, key, coKey, stored, defaultPartition, setBit}
 use Rattle.rules.specs.Partitions.{only}
 use Rattle.rules.specs.Fields.{name, field, nameWord}
 use Rattle.rules.specs.Matching.{Pair, pair, Op, receiving, taking}
@@ -31,24 +31,28 @@ any = 3 * 4294967296
 abbrev pub roster : List ℕ
 roster = (2 ^ 5 ∷ 2 ^ 5 ∷ zeros 6) ++ (2 ^ 35 ∷ 2 ^ 27 ∷ zeros 6)
 
--- the space as that opening leaves it, over old contents of 0
-abbrev pub start : List ℕ
-start = opening (zeros 1809) roster .space
+-- for (k), parties 0 and 2 have partition 0 besides
+abbrev pub withDefault : List ℕ
+withDefault = setBit 0 defaultPartition (setBit 2 defaultPartition roster)
+
+-- the space as an opening leaves it, over old contents of 0
+abbrev pub start : List ℕ → List ℕ
+start listed = opening (zeros 1809) listed .space
 
 -- a case: what is asked, and what is expected
 pub data Case : Type 0 where
-  -- from the opening anew, the calls in a row get these answers and fields
-  answered : List (Call (List ℕ)) → List Reply → Case
+  -- opened anew with the roster, the calls in a row get these answers and fields
+  answered : List ℕ → List (Call (List ℕ)) → List Reply → Case
   -- after these calls, the party holds the name, or doesn't
-  held : List (Call (List ℕ)) → ℕ → Name → Bool → Case
+  held : List ℕ → List (Call (List ℕ)) → ℕ → Name → Bool → Case
   -- the key's co-key
   coKeys : ℤ → ℤ → Case
   -- the name's word
   worded : Name → ℕ → Case
 
 abbrev pub Follows : Case → Type 0
-Follows (answered cs rs) = replies (λ c. true) start cs ≡ rs
-Follows (held cs who n b) = holds (decode (run start cs)) who n ≡ b
+Follows (answered listed cs rs) = replies (λ c. true) (start listed) cs ≡ rs
+Follows (held listed cs who n b) = holds (decode (run (start listed) cs)) who n ≡ b
 Follows (coKeys a b) = coKey a ≡ b
 Follows (worded n w) = (nameWord n ≡ w) × (field w ≡ name n)
 
@@ -80,7 +84,7 @@ carrying = puts 0 defaults (p 5 ∷ k (pos 4) ∷ []) ∷ asks receiving 2 defau
 abbrev pub twelve : List Case
 twelve =
     -- (a) to (e)
-    answered
+    answered roster
     (puts 0 own (m 7 ∷ m 120 ∷ [])
     ∷ asks receiving 1 other (m 7 ∷ any ∷ [])
     ∷ asks taking 0 other (any ∷ any ∷ [])
@@ -96,20 +100,20 @@ twelve =
     -- (h)
     ∷ worded (key (stored (pos 4))) 8589934627
     -- (i)
-    ∷ answered
+    ∷ answered roster
     (puts 0 own (m 1 ∷ []) ∷ puts 0 own (m 2 ∷ []) ∷ asks taking 1 other (any ∷ []) ∷ [])
     ((done, []) ∷ (done, []) ∷ (found 1, m 1 ∷ []) ∷ [])
     -- (j)
-    ∷ answered
+    ∷ answered roster
     (times 17 (puts 0 own (m 1 ∷ [])) (asks taking 1 other (any ∷ []) ∷ puts 0 own (m 1 ∷ []) ∷ []))
     (times 16 (done, []) ((refused 8, []) ∷ (found 1, m 1 ∷ []) ∷ (done, []) ∷ []))
     -- (k)
-    ∷ answered carrying ((done, []) ∷ (found 2, p 5 ∷ k (pos 4) ∷ []) ∷ [])
-    ∷ held carrying 2 (partition 5) true
-    ∷ held carrying 2 (key (stored (pos 4))) true
-    ∷ held carrying 2 (key (stored (negsuc 3))) false
+    ∷ answered withDefault carrying ((done, []) ∷ (found 2, p 5 ∷ k (pos 4) ∷ []) ∷ [])
+    ∷ held withDefault carrying 2 (partition 5) true
+    ∷ held withDefault carrying 2 (key (stored (pos 4))) true
+    ∷ held withDefault carrying 2 (key (stored (negsuc 3))) false
     -- (l)
-    ∷ answered (puts 8 defaults [] ∷ []) ((refused 2, []) ∷ [])
+    ∷ answered roster (puts 8 defaults [] ∷ []) ((refused 2, []) ∷ [])
     ∷ []
 
 abbrev pub TwelveCases : Type 0

@@ -9,7 +9,7 @@ use Prim.Native.Nat.{ℕ, suc, _+_, _*_, _≤_, _<_}
 use lib.IntN.{ℤ}
 use lib.ListN.{length, getD, take, drop}
 use Rattle.rules.specs.Lists.{all, keep, All, In}
-use Rattle.rules.specs.Names.{Name, partition, key, NameInRange, keyInRange, coKey, stored, coStored, defaultPartition, defaultKey, bit, heldIn}
+use Rattle.rules.specs.Names.{Name, partition, key, NameInRange, keyInRange, coKey, stored, coStored, commonNames, bit, heldIn}
 use Rattle.rules.specs.Partitions.{only, sets, singles}
 use Rattle.rules.specs.Fields.{message, name, wildcard, field, nameWord, isBound, putField, namesIn, fieldAgrees}
 use Rattle.rules.specs.Matching.{Pair, pair, storedPair, Entry, Op, looking, receiving, taking, pairFor, matches}
@@ -199,16 +199,12 @@ LiveAreThePutsNotTaken =
 
 -- ---- who holds what
 
--- N2, N3: the name is partition 0 or key 0
-abbrev pub IsDefault : Name → Type 0
-IsDefault n = (n ≡ partition defaultPartition) ⊎ (n ≡ key defaultKey)
-
--- C1: what an opening leaves: no entry is live, and each party holds what its two roster words say and, besides, the defaults.
+-- C1: what an opening leaves: no entry is live, and each party holds what its two roster words say and, besides, the common names.
 -- This is said of every name; one out of range nobody holds, as a word has 64 bits and R9 keeps bit 63 of a key word clear
 pub record OpenedWith (roster after : List ℕ) : Type 0 where
   pub noEntry : decode after .entries ≡ []
   pub holdings : (who : ℕ) (n : Name) → who < 8
-      → Iff (holds (decode after) who n ≡ true) ((heldIn (getD roster who 0) (getD roster (8 + who) 0) n ≡ true) ⊎ IsDefault n)
+      → Iff (holds (decode after) who n ≡ true) ((heldIn (getD roster who 0) (getD roster (8 + who) 0) n ≡ true) ⊎ In n commonNames)
 
 abbrev pub OpeningHoldings : Type 0
 OpeningHoldings = (ws roster : List ℕ) → opening ws roster .answer ≡ done → OpenedWith roster (opening ws roster .space)

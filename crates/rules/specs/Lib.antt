@@ -9,4 +9,5 @@ pub mod Words
 pub mod Runs
 pub mod Group
 pub mod Claims
+pub mod Rosters
 pub mod Cases

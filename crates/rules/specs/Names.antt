@@ -1,6 +1,6 @@
 -- Names: partitions, keys and co-keys, and the words whose bits hold them.
 use mathlib.Core.Bool.{Bool, _&&_}
-use mathlib.Core.List.{List}
+use mathlib.Core.List.{List, [], _∷_}
 use Prim.Native.Nat.{ℕ, _-_, _/_, _%_, _^_, _≤_}
 use lib.Bits.{bitOr}
 use lib.Dec.{eqb}
@@ -8,6 +8,10 @@ use lib.IntN.{ℤ, pos, negsuc, natAbs, negℤ, _+ℤ_}
 use lib.ListN.{getD, set}
 use lib.Signed.{leZ}
 use Rattle.rules.specs.Lists.{keep, from}
+
+-- N1: the parties
+abbrev pub parties : List ℕ
+parties = 0 ∷ 1 ∷ 2 ∷ 3 ∷ 4 ∷ 5 ∷ 6 ∷ 7 ∷ []
 
 -- N3: a key is a number from -31 to 31
 abbrev pub keyInRange : ℤ → Bool
@@ -42,6 +46,10 @@ defaultPartition = 0
 -- N3: key 0, the default `?`, stored
 abbrev pub defaultKey : ℕ
 defaultKey = 31
+
+-- C1, S4: the names that everyone holds, whatever the roster lists: key 0 alone
+abbrev pub commonNames : List Name
+commonNames = key defaultKey ∷ []
 
 -- L2: bit c of a word
 abbrev pub bit : ℕ → ℕ → Bool

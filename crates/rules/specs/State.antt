@@ -4,8 +4,8 @@ use mathlib.Core.List.{List, [], _∷_}
 use Prim.Native.Nat.{ℕ}
 use lib.Dec.{eqb}
 use lib.ListN.{length, getD}
-use Rattle.rules.specs.Lists.{keep}
-use Rattle.rules.specs.Names.{Name, partition, key, heldIn, setBit}
+use Rattle.rules.specs.Lists.{all, keep}
+use Rattle.rules.specs.Names.{parties, Name, partition, key, heldIn, setBit}
 use Rattle.rules.specs.Matching.{Entry}
 
 -- L1 to L4: one partition word and one key word for each party
@@ -28,6 +28,15 @@ give who (key k) s =
 abbrev pub giveAll : ℕ → List Name → State → State
 giveAll who [] s = s
 giveAll who (n ∷ ns) s = giveAll who ns (give who n s)
+
+-- C1: each of these parties holds the names from now on
+abbrev pub giveEach : List ℕ → List Name → State → State
+giveEach [] ns s = s
+giveEach (who ∷ whos) ns s = giveEach whos ns (giveAll who ns s)
+
+-- S4: everyone holds the names
+abbrev pub everyoneHolds : List Name → State → Bool
+everyoneHolds ns s = all (λ who. all (holds s who) ns) parties
 
 abbrev pub withEntries : List Entry → State → State
 withEntries es s = record { partitions = s .partitions; keys = s .keys; entries = es }

@@ -6,11 +6,11 @@ use Prim.Native.Nat.{ℕ, zero, suc, _+_, _-_, _*_}
 use lib.Dec.{leb, eqb}
 use lib.ListN.{length, getD, take, drop, replicate}
 use Rattle.rules.specs.Lists.{all}
-use Rattle.rules.specs.Names.{bit, defaultPartition, defaultKey}
+use Rattle.rules.specs.Names.{parties, bit, commonNames}
 use Rattle.rules.specs.Partitions.{sets}
 use Rattle.rules.specs.Fields.{putField}
 use Rattle.rules.specs.Matching.{pair, Entry}
-use Rattle.rules.specs.State.{State, live, limitOf}
+use Rattle.rules.specs.State.{State, everyoneHolds, live, limitOf}
 use Rattle.rules.specs.Calls.{Call, put, seek, Answer, done, refused, Table, firstThatApplies, table, Outcome, step, opened}
 
 -- n words of 0
@@ -88,22 +88,15 @@ abbrev pub rowsOk : ℕ → List ℕ → Bool
 rowsOk zero r = all isZero r
 rowsOk (suc n) r = rowOk r && rowsOk n (drop 14 r)
 
--- N1
-abbrev pub parties : List ℕ
-parties = 0 ∷ 1 ∷ 2 ∷ 3 ∷ 4 ∷ 5 ∷ 6 ∷ 7 ∷ []
-
 -- S8
 abbrev pub withinLimits : State → Bool
 withinLimits s = all (λ who. leb (live who (s .entries)) (limitOf s who)) parties
 
--- S3, S4, S5: everyone holds partition 0 and key 0, and bit 63 of each key word is clear
+-- S4, S5: everyone holds the common names, and bit 63 of each key word is clear
 abbrev pub holdingsOk : State → Bool
-holdingsOk s =
-    all (λ w. bit w defaultPartition) (s .partitions)
-    && (all (λ w. bit w defaultKey) (s .keys)
-    && all (λ w. not (bit w 63)) (s .keys))
+holdingsOk s = everyoneHolds commonNames s && all (λ w. not (bit w 63)) (s .keys)
 
--- S1 to S9: "sound" in the papers: the words are a well-formed space
+-- S1, S2, S4 to S9: "sound" in the papers: the words are a well-formed space
 unfoldable pub sound : List ℕ → Bool
 sound ws =
     eqb (length ws) 1809

@@ -6,6 +6,8 @@ use refusal_lines::EMPTY;
 use refusal_lines::KEY;
 use refusal_lines::KIND_6;
 use refusal_lines::PARTITION;
+use refusal_lines::SET_0;
+use refusal_lines::SET_0_5;
 use refusal_lines::SET_5;
 use refusal_lines::SET_5_6;
 use refusal_lines::SET_6;
@@ -13,11 +15,6 @@ use refusal_lines::SET_OF_ALL;
 use refusal_lines::WILDCARD;
 use search::Op;
 use space::Answer;
-
-// Sets of partitions, in pairs and in holdings.
-const SET_0: u64 = 1;
-
-const SET_0_5: u64 = 33;
 
 fn main() {
     let words = refusal_lines::opened();
@@ -117,6 +114,8 @@ fn seek_of_sets(words: [u64; 1809], op: Op) {
     seek(text, words, op, 1, SET_0_5, -4, &[7, 120]);
     let text = b"set {0}, nothing shared";
     seek(text, words, op, 1, SET_0, -4, &[7, 120]);
+    let text = b"party 0, set {0}, 0 not held";
+    seek(text, words, op, 0, SET_0, 0, &[7, 120]);
 }
 
 fn seek_of_others_pairs(words: [u64; 1809], op: Op) {
@@ -132,6 +131,8 @@ fn seek_of_others_fields(words: [u64; 1809], op: Op) {
     let text = b"partition 6 in a field, not held";
     seek_fields(text, words, op, &[7, PARTITION + 6]);
     seek_fields(b"key 4 in a field, not held", words, op, &[7, KEY + 35]);
+    let text = b"party 0, partition 0 in a field, not held";
+    seek(text, words, op, 0, SET_5, 4, &[7, PARTITION]);
 }
 
 fn seek_of_two_others_names(words: [u64; 1809], op: Op) {

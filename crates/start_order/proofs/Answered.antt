@@ -9,7 +9,7 @@ use native.Mathlib.Omega.{arith}
 use lib.Dec.{ltb}
 use lib.ListN.{length, drop, drop-of-length-le}
 use Rattle.rules.specs.Lists.{In, any, first}
-use Rattle.rules.specs.Words.{parties}
+use Rattle.rules.specs.Names.{parties}
 use Rattle.rules.proofs.ListLaws.{bool}
 use Rattle.start_order.specs.Pairs.{Pairs, Relation, precedes, onCircle}
 use Rattle.start_order.specs.Order.{order}

@@ -10,7 +10,7 @@ use native.Mathlib.Omega.{arith}
 use borrow.Author.Tests.{ne-eqb}
 use lib.ListN.{length}
 use Rattle.rules.specs.Lists.{keep, first, All, In, from}
-use Rattle.rules.specs.Words.{parties}
+use Rattle.rules.specs.Names.{parties}
 use Rattle.rules.proofs.ListLaws.{bool, clash, all-of}
 use Rattle.rules.proofs.Members.{in-keep, keep-in, in-from, from-in, All-in, in-left}
 use Rattle.start_order.specs.Pairs.{Relation, chain, onCircle}

@@ -11,7 +11,7 @@ use lib.ListN.{length, take, drop}
 use lib.Seq.{take-at, drop-at}
 use Rattle.rules.specs.Lists.{any, first, In}
 use Rattle.rules.specs.Calls.{firstThatApplies}
-use Rattle.rules.specs.Words.{parties}
+use Rattle.rules.specs.Names.{parties}
 use Rattle.rules.specs.Claims.{FirstApplies}
 use Rattle.rules.proofs.ListLaws.{clash, passed}
 use Rattle.rules.proofs.Members.{any-in, in-any}

@@ -11,7 +11,7 @@ use borrow.Author.Tests.{not-true, eq-eqb, lt-ltb, ltb-true}
 use lib.Dec.{eqb, ltb}
 use lib.ListN.{length}
 use Rattle.rules.specs.Lists.{all, keep, In}
-use Rattle.rules.specs.Words.{parties}
+use Rattle.rules.specs.Names.{parties}
 use Rattle.rules.proofs.ListLaws.{bool, clash, and-left, and-right, all-true, all-of}
 use Rattle.rules.proofs.Members.{in-keep, keep-in, in-from, All-in, All-at-in, in-left}
 use Rattle.start_order.specs.Pairs.{Pairs, precedes}

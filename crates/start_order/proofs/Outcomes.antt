@@ -9,8 +9,8 @@ use native.Mathlib.Omega.{arith}
 use lib.Dec.{ltb}
 use lib.ListN.{length, getD, replicate, length-map}
 use Rattle.rules.specs.Lists.{any, first, All}
-use Rattle.rules.specs.Names.{bit}
-use Rattle.rules.specs.Words.{zeros, parties}
+use Rattle.rules.specs.Names.{parties, bit}
+use Rattle.rules.specs.Words.{zeros}
 use Rattle.rules.proofs.BitLaws.{zero-bit}
 use Rattle.rules.proofs.ListLaws.{bool}
 use Rattle.start_order.specs.Pairs.{Pairs, Relation, pairOf, precedes, chain, onCircle}

@@ -9,7 +9,7 @@ use native.Mathlib.Omega.{arith}
 use borrow.Author.Tests.{not-true, eq-eqb, ne-eqb}
 use lib.Dec.{eqb}
 use Rattle.rules.specs.Lists.{all, keep, first, In, from}
-use Rattle.rules.specs.Words.{parties}
+use Rattle.rules.specs.Names.{parties}
 use Rattle.rules.proofs.BitLaws.{eqb-true, eqb-same}
 use Rattle.rules.proofs.ListLaws.{bool, clash, and-left}
 use Rattle.rules.proofs.Members.{any-in, in-any, in-left, in-right}

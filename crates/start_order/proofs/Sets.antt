@@ -14,8 +14,7 @@ use lib.ListN.{length, getD, set, length-set, List·getD-map}
 use lib.Seq.{getD-set-same, getD-set-other}
 use lib.Pow.{pow-lt}
 use Rattle.rules.specs.Lists.{keep, All, from}
-use Rattle.rules.specs.Names.{bit, bitsIn, withBit, setBit}
-use Rattle.rules.specs.Words.{parties}
+use Rattle.rules.specs.Names.{parties, bit, bitsIn, withBit, setBit}
 use Rattle.rules.proofs.BitLaws.{eqb-true, or-bit, bit-with, bit-kept, bit-self, zero-bit, no-bit}
 use Rattle.rules.proofs.ListLaws.{bool, keep-append, All-at}
 use Rattle.rules.proofs.Members.{or-true}

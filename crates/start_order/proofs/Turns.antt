@@ -14,8 +14,7 @@ use lib.ListN.{length, getD, take, drop, set, length-map}
 use lib.Seq.{drop-cons, length-take-le, take-all}
 use Rattle.edits.proofs.Store.{store}
 use Rattle.rules.specs.Lists.{any, first, from}
-use Rattle.rules.specs.Names.{bit, withBit, setBit}
-use Rattle.rules.specs.Words.{parties}
+use Rattle.rules.specs.Names.{parties, bit, withBit, setBit}
 use Rattle.rules.proofs.BitLaws.{zero-bit}
 use Rattle.rules.proofs.ListLaws.{bool, or-left, or-right}
 use Rattle.start_order.specs.Pairs.{Relation, pairOf}

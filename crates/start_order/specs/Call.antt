@@ -7,7 +7,7 @@ use lib.Dec.{ltb}
 use lib.ListN.{length, drop}
 use Rattle.rules.specs.Lists.{any, first}
 use Rattle.rules.specs.Calls.{Table, firstThatApplies}
-use Rattle.rules.specs.Words.{parties}
+use Rattle.rules.specs.Names.{parties}
 use Rattle.start_order.specs.Pairs.{Pairs, Relation, pairOf, precedes, onCircle}
 use Rattle.start_order.specs.Order.{order}
 

@@ -1,45 +1,30 @@
 -- `holdings_ok` meets its contract: the parties from p on decide as all do.
 use Prim.Native.Nat.{_-_, _≤_}
-use mathlib.Core.Path.{_≡_, refl, sym, _∙_}
+use mathlib.Core.Path.{_≡_, sym, _∙_}
 use borrow.Author.Needs.{needs}
 use Rattle.rules.specs.Words.{decode, holdingsOk}
-use Rattle.audit.proofs.HoldingLaws.{fromParty, holdings-stop, holdings-step, holdings-end}
+use Rattle.audit.proofs.HoldingLaws.{okFrom, ok-all, ok-end, holdings-stop, holdings-step}
 use Rattle.audit.proofs.holdings_ok.Statement.{statement}
 use Rattle.audit.proofs.holdings_ok.Tie as tie
 
 abbrev Inv-loop : tie.InvT-loop
-Inv-loop space p₀ p = (p ≤ 8) × (holdingsOk (fromParty (decode space) p) ≡ holdingsOk (decode space))
+Inv-loop space p₀ p = (p ≤ 8) × (okFrom (decode space) p ≡ holdingsOk (decode space))
 
 abbrev μ-loop : tie.MeasureT-loop
 μ-loop space p₀ p = 8 - p
 
--- the places of the walk, each by its way to the one before it: a turn of the loop, its party's words read, and each bit tested
+-- the places of the walk, each by its way to the one before it: a turn of the loop, its party's key word read, and each bit tested
 abbrev turn-start : tie.At-loop Inv-loop μ-loop → tie.Start Inv-loop μ-loop
 turn-start c = c .before .before
 
-abbrev words-turn : tie.After-shared-slice-known3 Inv-loop μ-loop → tie.At-loop Inv-loop μ-loop
-words-turn c = c .before .before .before
+abbrev key-turn : tie.After-has-bit Inv-loop μ-loop → tie.At-loop Inv-loop μ-loop
+key-turn c = c .before .before .before
 
-abbrev partition-words : tie.After-has-bit Inv-loop μ-loop → tie.After-shared-slice-known3 Inv-loop μ-loop
-partition-words c = c .before
-
-abbrev key-partition : tie.After-has-bit2 Inv-loop μ-loop → tie.After-has-bit Inv-loop μ-loop
-key-partition c = c .before
-
-abbrev spare-key : tie.After-has-bit3 Inv-loop μ-loop → tie.After-has-bit2 Inv-loop μ-loop
+abbrev spare-key : tie.After-has-bit2 Inv-loop μ-loop → tie.After-has-bit Inv-loop μ-loop
 spare-key c = c .before
 
 loop-holds : tie.Need-loop-holds Inv-loop μ-loop
-loop-holds c = (search needs, refl)
-
-add-partitions : tie.Need-add-partitions Inv-loop μ-loop
-add-partitions c = search needs
-
-mul-partitions : tie.Need-mul-partitions Inv-loop μ-loop
-mul-partitions c = search needs
-
-shared-slice-read-partitions : tie.Need-shared-slice-read-partitions Inv-loop μ-loop
-shared-slice-read-partitions c = search needs
+loop-holds c = (search needs, ok-all _)
 
 add-keys : tie.Need-add-keys Inv-loop μ-loop
 add-keys c = search needs
@@ -56,18 +41,14 @@ has-bit-requires c κs = search needs
 has-bit-requires-2 : tie.Need-has-bit-requires-2 Inv-loop μ-loop
 has-bit-requires-2 c κs = search needs
 
-has-bit-requires-3 : tie.Need-has-bit-requires-3 Inv-loop μ-loop
-has-bit-requires-3 c κs = search needs
-
 returns : tie.Need-returns Inv-loop μ-loop
 returns c =
     let spare = c .before in
     let key = spare-key spare in
-    let partition = key-partition key in
-    let turn = words-turn (partition-words partition) in
+    let turn = key-turn key in
     let start = turn-start turn in
     holdings-stop (start .args .space .now) (turn .loop .p) (start .pre) (search needs)
-    (partition .has-bit .ensures) (key .has-bit2 .ensures) (spare .has-bit3 .ensures) (turn .loop .inv .1) (c .if1 .taken)
+    (key .has-bit .ensures) (spare .has-bit2 .ensures) (turn .loop .inv .1) (c .if1 .taken)
 
 add-p : tie.Need-add-p Inv-loop μ-loop
 add-p c = search needs
@@ -79,19 +60,18 @@ loop-again : tie.Need-loop-again Inv-loop μ-loop
 loop-again c =
     let spare = c .before in
     let key = spare-key spare in
-    let partition = key-partition key in
-    let turn = words-turn (partition-words partition) in
+    let turn = key-turn key in
     let start = turn-start turn in (
       search needs,
       holdings-step (start .args .space .now) (turn .loop .p) (start .pre) (search needs)
-          (partition .has-bit .ensures) (key .has-bit2 .ensures) (spare .has-bit3 .ensures) (turn .loop .inv .1) (c .if1 .left),
+          (key .has-bit .ensures) (spare .has-bit2 .ensures) (turn .loop .inv .1) (c .if1 .left),
     )
 
 returns-2 : tie.Need-returns-2 Inv-loop μ-loop
 returns-2 c =
     let turn = c .before in
     let start = turn-start turn in
-    sym (holdings-end (start .args .space .now) (turn .loop .p) (start .pre) (c .loop-test .left)) ∙ turn .loop .inv .1
+    sym (ok-end (start .args .space .now) (turn .loop .p) (start .pre) (c .loop-test .left)) ∙ turn .loop .inv .1
 
 pub holdings-ok-spec : {M : Type 1} → statement M
 holdings-ok-spec =
@@ -100,15 +80,11 @@ holdings-ok-spec =
     Inv-loop
     μ-loop
     loop-holds
-    add-partitions
-    mul-partitions
-    shared-slice-read-partitions
     add-keys
     mul-keys
     shared-slice-read-keys
     has-bit-requires
     has-bit-requires-2
-    has-bit-requires-3
     returns
     add-p
     loop-less

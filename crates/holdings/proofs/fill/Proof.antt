@@ -1,14 +1,15 @@
 -- `fill` meets its contract: the rows are cleared, the two parts before them are the holdings, and the count of entries is 0.
 use Prim.Native.Nat.{ℕ, _-_, _≤_}
-use mathlib.Core.Path.{_≡_, refl, ap, _∙_}
-use mathlib.Core.List.{List, _++_, map}
+use mathlib.Core.Path.{_≡_, refl, sym, ap, _∙_}
+use mathlib.Core.List.{List, _∷_, _++_, map}
 use native.Mathlib.Omega.{arith}
-use lib.ListN.{length, take, drop, set, length-append, length-map, length-take, length-drop, length-set}
+use lib.ListN.{length, take, drop, set, length-append, length-take, length-drop, length-set}
 use lib.Seq.{take-all}
-use Rattle.rules.specs.Names.{withBit, defaultPartition, defaultKey}
+use Rattle.rules.specs.Names.{withBit, defaultKey}
 use Rattle.rules.specs.Calls.{opened}
 use Rattle.rules.specs.Words.{rowsEnd, zeros, encode}
-use Rattle.holdings.proofs.Opening.{mid-mid, past-cleared, on-cleared}
+use Rattle.rules.proofs.Openings.{opened-words}
+use Rattle.holdings.proofs.Opening.{mid-mid, past-cleared, on-cleared, filled}
 use borrow.Author.Needs.{needs}
 use Rattle.holdings.proofs.fill.Statement.{statement}
 use Rattle.holdings.proofs.fill.Tie as tie
@@ -21,13 +22,13 @@ rows-start c = c .before .before .before
 abbrev clear-rows : tie.After-clear → tie.After-start
 clear-rows c = c .before .before
 
-abbrev partitions-clear : tie.After-with-all → tie.After-clear
+abbrev partitions-clear : tie.After-copy-in → tie.After-clear
 partitions-clear c = c .before .before .before .before .before
 
-abbrev keys-partitions : tie.After-with-all2 → tie.After-with-all
+abbrev keys-partitions : tie.After-with-all → tie.After-copy-in
 keys-partitions c = c .before .before .before .before .before
 
-abbrev end-keys : tie.After-slice-known4 → tie.After-with-all2
+abbrev end-keys : tie.After-slice-known4 → tie.After-with-all
 end-keys c = c .before .before
 
 start-requires : tie.Need-start-requires
@@ -54,6 +55,27 @@ part-clear-end c = search needs
 clear-requires : tie.Need-clear-requires
 clear-requires c κs = search needs
 
+sub-copy-in : tie.Need-sub-copy-in
+sub-copy-in c = search needs
+
+part-copy-in-start : tie.Need-part-copy-in-start
+part-copy-in-start c = search needs
+
+part-copy-in-end : tie.Need-part-copy-in-end
+part-copy-in-end c = search needs
+
+sub-copy-in-2 : tie.Need-sub-copy-in-2
+sub-copy-in-2 c = search needs
+
+part-copy-in-start-2 : tie.Need-part-copy-in-start-2
+part-copy-in-start-2 c = search needs
+
+part-copy-in-end-2 : tie.Need-part-copy-in-end-2
+part-copy-in-end-2 c = search needs
+
+copy-in-requires : tie.Need-copy-in-requires
+copy-in-requires c κs = search needs
+
 sub-with-all : tie.Need-sub-with-all
 sub-with-all c = search needs
 
@@ -75,27 +97,6 @@ part-with-all-end-2 c = search needs
 with-all-requires : tie.Need-with-all-requires
 with-all-requires c κs = search needs
 
-sub-with-all-3 : tie.Need-sub-with-all-3
-sub-with-all-3 c = search needs
-
-part-with-all-start-3 : tie.Need-part-with-all-start-3
-part-with-all-start-3 c = search needs
-
-part-with-all-end-3 : tie.Need-part-with-all-end-3
-part-with-all-end-3 c = search needs
-
-sub-with-all-4 : tie.Need-sub-with-all-4
-sub-with-all-4 c = search needs
-
-part-with-all-start-4 : tie.Need-part-with-all-start-4
-part-with-all-start-4 c = search needs
-
-part-with-all-end-4 : tie.Need-part-with-all-end-4
-part-with-all-end-4 c = search needs
-
-with-all-requires-2 : tie.Need-with-all-requires-2
-with-all-requires-2 c κs = search needs
-
 slice-write-space : tie.Need-slice-write-space
 slice-write-space c = search needs
 
@@ -103,7 +104,7 @@ same-length : tie.Need-same-length
 same-length c = rw length-set (search needs)
 
 returns : tie.Need-returns
-unfolding opened encode
+unfolding encode
 returns c =
     let written = end-keys c in
     let partitioned = keys-partitions written in
@@ -114,15 +115,17 @@ returns c =
     let s = start .args .space .now in
     let roster = start .args .roster .now in
     let z : List ℕ = take rows s ++ (clear .clear .last .0 ++ drop (rowsEnd - rows) (drop rows s)) in
-    let partitions : List ℕ = map (λ w. withBit w defaultPartition) (take 8 roster) in
+    let partitions : List ℕ = take 8 roster in
     let keys : List ℕ = map (λ w. withBit w defaultKey) (drop 8 roster) in
     let past : drop 17 z ≡ zeros 1792 = past-cleared s (clear .clear .last .0) 17 1792 (found .start .ensures) refl (start .pre .0) (clear .clear .ensures) in
-    let first : partitioned .with-all .last .1 .0 ≡ partitions = partitioned .with-all .ensures in
+    let first : partitioned .copy-in .last .1 .0 ≡ partitions = filled (take 8 roster) _ _ (search needs) (partitioned .copy-in .ensures) in
     let whole : take 8 (drop 8 roster) ≡ drop 8 roster = take-all 8 (drop 8 roster) (simp length-drop (omega arith)) in
-    let second : written .with-all2 .last .1 .0 ≡ keys = written .with-all2 .ensures ∙ ap (map (λ w. withBit w defaultKey)) whole in
-    let eight : length partitions ≡ 8 = length-map (take 8 roster) _ ∙ simp length-take (omega arith) in
+    let second : written .with-all .last .1 .0 ≡ keys = written .with-all .ensures ∙ ap (map (λ w. withBit w defaultKey)) whole in
+    let eight : length partitions ≡ 8 = simp length-take (omega arith) in
     let some : 1 ≤ length z = simp (length-append, length-take) (omega (arith, start .pre .0, found .start .ensures)) in
-    rw (first, second) (ap (λ (l : List ℕ). set l 0 0) (mid-mid z partitions keys 1 8 8 some eight) ∙ on-cleared z partitions keys some past)
+    let whole-space : 0 ∷ (partitions ++ (keys ++ zeros 1792)) ≡ encode (opened roster) = sym (ap encode (opened-words roster (start .pre .1))) in
+    rw (first, second)
+    (ap (λ (l : List ℕ). set l 0 0) (mid-mid z partitions keys 1 8 8 some eight) ∙ on-cleared z partitions keys some past ∙ whole-space)
 
 pub fill-spec : {M : Type 1} → statement M
 fill-spec =
@@ -136,6 +139,13 @@ fill-spec =
     part-clear-start
     part-clear-end
     clear-requires
+    sub-copy-in
+    part-copy-in-start
+    part-copy-in-end
+    sub-copy-in-2
+    part-copy-in-start-2
+    part-copy-in-end-2
+    copy-in-requires
     sub-with-all
     part-with-all-start
     part-with-all-end
@@ -143,13 +153,6 @@ fill-spec =
     part-with-all-start-2
     part-with-all-end-2
     with-all-requires
-    sub-with-all-3
-    part-with-all-start-3
-    part-with-all-end-3
-    sub-with-all-4
-    part-with-all-start-4
-    part-with-all-end-4
-    with-all-requires-2
     slice-write-space
     same-length
     returns)

@@ -8,8 +8,7 @@ use lib.Bits.{bitAnd}
 use lib.Dec.{eqb}
 use lib.ListN.{getD}
 use Rattle.rules.specs.Lists.{all, keep}
-use Rattle.rules.specs.Names.{bit}
-use Rattle.rules.specs.Words.{parties}
+use Rattle.rules.specs.Names.{parties, bit}
 use Rattle.rules.proofs.ListLaws.{All-at}
 use Rattle.rules.proofs.SetLaws.{held-and}
 use Rattle.start_order.specs.Order.{ready}

@@ -4,7 +4,7 @@ use mathlib.Core.Path.{_≡_, refl, sym, _∙_}
 use mathlib.Core.Bool.{Bool}
 use native.Mathlib.Omega.{arith}
 use Rattle.rules.specs.Lists.{first, from}
-use Rattle.rules.specs.Words.{parties}
+use Rattle.rules.specs.Names.{parties}
 use Rattle.start_order.specs.Answers.{relationOf}
 use Rattle.start_order.proofs.Turns.{first-here, first-on, last-one}
 use borrow.Author.Needs.{needs}

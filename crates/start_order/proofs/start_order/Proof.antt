@@ -7,7 +7,8 @@ use borrow.Author.Tests.{not-true, not-false, eqb-true, eqb-false, ltb-false}
 use lib.Dec.{eqb, ltb}
 use lib.ListN.{length, drop}
 use Rattle.rules.specs.Lists.{any, first}
-use Rattle.rules.specs.Words.{zeros, parties}
+use Rattle.rules.specs.Names.{parties}
+use Rattle.rules.specs.Words.{zeros}
 use Rattle.rules.proofs.ListLaws.{or-left, or-right}
 use Rattle.start_order.specs.Pairs.{Pairs, Relation, pairOf, precedes, chain, onCircle}
 use Rattle.start_order.specs.Order.{order}
