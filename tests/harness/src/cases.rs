@@ -1,5 +1,6 @@
-//! The rules' cases, the examples of their refusals, a case of looks, one of bounds, one of sets and
-//! one of names that aren't held, with answers and words written by hand.
+//! The rules' cases, the examples of their refusals, a case of looks, one of bounds, one of sets, one
+//! of names that aren't held, one of partition 0 and one of openings, with answers and words written
+//! by hand.
 
 use crate::call::{answer_text, Call, Kind, Query};
 use crate::report::Report;
@@ -7,6 +8,7 @@ use crate::space::Space;
 use reference::{Operation, Pair};
 
 const WILDCARD: u64 = 12_884_901_888;
+const PARTITION_0: u64 = 4_294_967_296;
 const PARTITION_5: u64 = 4_294_967_301;
 const KEY_4: u64 = 8_589_934_627;
 /// The words of the kinds 4 to 6 with the number 0.
@@ -75,8 +77,12 @@ fn finds(call: Call, fields: &[u64]) -> Step {
     (call, fields.len() as u32, fields.to_vec())
 }
 
-/// Each case with its steps from the opening of the rules' cases.
-fn cases() -> Vec<(&'static str, Vec<Step>)> {
+/// A case: its name, the parties that have partition 0 besides what the opening of the rules' cases
+/// gives, and its steps.
+type Case = (&'static str, &'static [usize], Vec<Step>);
+
+/// The rules' own.
+fn cases() -> Vec<Case> {
     let all = [WILDCARD, WILDCARD];
     let sixteen = (0..16).map(|_| step(put(0, pair(5, 4), &[1]), 0));
     let after_sixteen = [
@@ -87,6 +93,7 @@ fn cases() -> Vec<(&'static str, Vec<Step>)> {
     vec![
         (
             "a to e",
+            &[],
             vec![
                 step(put(0, pair(5, 4), &[7, 120]), 0),
                 finds(receive(1, pair(5, -4), &[7, WILDCARD]), &[7, 120]),
@@ -97,15 +104,17 @@ fn cases() -> Vec<(&'static str, Vec<Step>)> {
         ),
         (
             "i",
+            &[],
             vec![
                 step(put(0, pair(5, 4), &[1]), 0),
                 step(put(0, pair(5, 4), &[2]), 0),
                 finds(take(1, pair(5, -4), &[WILDCARD]), &[1]),
             ],
         ),
-        ("j", sixteen.chain(after_sixteen).collect()),
+        ("j", &[], sixteen.chain(after_sixteen).collect()),
         (
             "k, with the words of g and h",
+            &[0, 2],
             vec![
                 step(put(0, pair(0, 0), &[PARTITION_5, KEY_4]), 0),
                 step(put(2, pair(5, 4), &[1]), REFUSED + 13),
@@ -114,9 +123,10 @@ fn cases() -> Vec<(&'static str, Vec<Step>)> {
                 step(put(2, pair(5, -4), &[1]), REFUSED + 14),
             ],
         ),
-        ("l", vec![step(put(8, pair(0, 0), &[]), REFUSED + 2)]),
+        ("l", &[], vec![step(put(8, pair(0, 0), &[]), REFUSED + 2)]),
         (
             "examples of the refusals",
+            &[],
             vec![
                 step(put(8, pair(0, 0), &[1]), REFUSED + 2),
                 step(put(0, pair(0, 0), &[1; 9]), REFUSED + 3),
@@ -137,7 +147,7 @@ fn cases() -> Vec<(&'static str, Vec<Step>)> {
     ]
 }
 
-/// What looks find, and that they give no name, from the same opening.
+/// What looks find, and that they give no name.
 fn looks() -> Vec<Step> {
     let defaults = pair(0, 0);
     let names = [PARTITION_5, KEY_4];
@@ -183,7 +193,7 @@ fn looks() -> Vec<Step> {
     ]
 }
 
-/// Picks by bounds, from the same opening: entries of messages, then entries of names.
+/// Picks by bounds: entries of messages, then entries of names.
 fn bounds() -> Vec<Step> {
     let there = pair(5, -4);
     let pick = |words: &[u64], fields: &[u64]| finds(look(1, there, words), fields);
@@ -218,7 +228,7 @@ fn bounds() -> Vec<Step> {
     ]
 }
 
-/// Sets of several partitions, from the same opening: {0, 5} is 33, {0, 1, 5} is 35.
+/// Sets of several partitions: {0, 5} is 33, {0, 1, 5} is 35.
 fn sets() -> Vec<Step> {
     let (both, one_more) = (33, 35);
     let by_two_sets = |read, take, fields: &[u64]| Call::Put {
@@ -349,20 +359,127 @@ fn missing_names() -> Vec<Step> {
     .concat()
 }
 
-/// Makes the opening of the rules' cases: partition 5 for both, key 4 for 0 and -4 for 1.
-fn opening(system: &mut dyn Space) -> Vec<u64> {
+/// Partition 0 where only party 0 has it: it is used and carried as any other is.
+fn partition_0() -> Vec<Step> {
+    let (zero, both, there) = (pair(0, 0), under(33, -4), pair(5, -4));
+    let by_two_sets = |read, take| Call::Put {
+        party: 1,
+        read,
+        take,
+        fields: vec![1],
+    };
+    vec![
+        // Party 1 has partition 5, and party 2 has none.
+        step(put(1, zero, &[1]), REFUSED + 13),
+        step(put(1, both, &[1]), REFUSED + 13),
+        step(by_two_sets(there, pair(0, -4)), REFUSED + 13),
+        step(by_two_sets(pair(0, -4), there), REFUSED + 13),
+        step(look(1, zero, &[1]), REFUSED + 13),
+        step(receive(1, both, &[1]), REFUSED + 13),
+        step(take(1, zero, &[1]), REFUSED + 13),
+        step(take(1, pair(0, 4), &[PARTITION_0]), REFUSED + 13),
+        step(put(1, there, &[PARTITION_0]), REFUSED + 7),
+        step(look(1, there, &[PARTITION_0]), REFUSED + 7),
+        step(take(2, zero, &[1]), REFUSED + 13),
+        step(put(0, zero, &[1]), 0),
+        finds(look(0, zero, &[1]), &[1]),
+        step(put(0, pair(5, 4), &[PARTITION_0]), 0),
+        // A look at it gives nothing, a receive gives it.
+        finds(look(1, there, &[WILDCARD]), &[PARTITION_0]),
+        step(look(1, zero, &[1]), REFUSED + 13),
+        finds(receive(1, there, &[WILDCARD]), &[PARTITION_0]),
+        finds(look(1, zero, &[1]), &[1]),
+        finds(take(1, both, &[PARTITION_0]), &[PARTITION_0]),
+        finds(take(1, zero, &[1]), &[1]),
+        step(look(2, zero, &[1]), REFUSED + 13),
+    ]
+}
+
+/// The same, handed on by a take.
+fn partition_0_taken() -> Vec<Step> {
+    let (zero, there) = (pair(0, 0), pair(5, -4));
+    vec![
+        step(put(0, pair(5, 4), &[PARTITION_0]), 0),
+        finds(take(1, there, &[WILDCARD]), &[PARTITION_0]),
+        step(put(1, zero, &[1]), 0),
+        finds(take(0, zero, &[WILDCARD]), &[1]),
+    ]
+}
+
+/// The roster of the rules' cases: partition 5 for both, key 4 for 0 and -4 for 1; and partition 0
+/// for these parties.
+fn roster(with_0: &[usize]) -> [u64; 16] {
     let mut roster = [0; 16];
     roster[0] = 1 << 5;
     roster[1] = 1 << 5;
     roster[8] = 1 << 35;
     roster[9] = 1 << 27;
+    for party in with_0 {
+        roster[*party] |= 1;
+    }
+    roster
+}
+
+fn opened(system: &mut dyn Space, roster: &[u64]) -> Vec<u64> {
     let mut space = vec![u64::MAX; 1_809];
-    system.open(&mut space, &roster);
+    system.open(&mut space, roster);
     space
 }
 
-fn run_case(system: &mut dyn Space, steps: &[Step]) -> Result<String, String> {
-    let mut space = opening(system);
+/// Words 1 to 16 after an opening by these rosters; all others are 0. Key 0 is bit 31.
+fn openings(system: &mut dyn Space) -> Result<String, String> {
+    let key_0 = 2_147_483_648;
+    let mut of_zeros = [0; 16];
+    of_zeros[8..].fill(key_0);
+    let mut of_cases = of_zeros;
+    of_cases[..3].copy_from_slice(&[33, 32, 1]);
+    of_cases[8..10].copy_from_slice(&[36_507_222_016, 2_281_701_376]);
+    let mut all = [u64::MAX; 16];
+    all[8..].fill(u64::MAX >> 1);
+    let rosters = [
+        ([0; 16], of_zeros),
+        // With key 0 listed.
+        (of_zeros, of_zeros),
+        (roster(&[0, 2]), of_cases),
+        (all, all),
+    ];
+    for (roster, due) in &rosters {
+        let space = opened(system, roster);
+        let others = [&space[..1], &space[17..]].concat();
+        if space[1..17] != *due || others.iter().any(|word| *word != 0) {
+            return Err(format!("{roster:?}: {:?}, due is {due:?}", &space[1..17]));
+        }
+    }
+    Ok(format!("openings as due: {}", rosters.len()))
+}
+
+/// A look of party 1 at an opened space with partition 0 taken out of each word and of all, and with
+/// key 0 taken out of each.
+fn holdings_words(system: &mut dyn Space) -> Result<String, String> {
+    let mut answers = Vec::new();
+    let everybody = [0, 1, 2, 3, 4, 5, 6, 7];
+    let sound = opened(system, &roster(&everybody));
+    let there = look(1, pair(5, -4), &[WILDCARD]);
+    let mut answer =
+        |space: &[u64]| there.make(system, &mut space.to_vec(), there.input(), &mut [0]);
+    let mut nobodys = sound.clone();
+    for party in everybody {
+        nobodys[1 + party] &= !1;
+        let mut without_partition = sound.clone();
+        without_partition[1 + party] &= !1;
+        let mut without_key = sound.clone();
+        without_key[9 + party] &= !(1 << 31);
+        answers.extend([(answer(&without_partition), 0), (answer(&nobodys), 0)]);
+        answers.push((answer(&without_key), REFUSED + 1));
+    }
+    match answers.iter().all(|(got, due)| got == due) {
+        true => Ok(format!("looks as due: {}", answers.len())),
+        false => Err(format!("answers and what is due: {answers:?}")),
+    }
+}
+
+fn run_case(system: &mut dyn Space, with_0: &[usize], steps: &[Step]) -> Result<String, String> {
+    let mut space = opened(system, &roster(with_0));
     for (call, answer, fields) in steps {
         let before = space.clone();
         let mut result = vec![99; call.result_len()];
@@ -387,14 +504,19 @@ fn run_case(system: &mut dyn Space, steps: &[Step]) -> Result<String, String> {
 
 /// Runs each case.
 pub fn check(report: &mut Report, who: &str, system: &mut dyn Space) {
-    let of_ours = [
-        ("of looks", looks()),
-        ("of bounds", bounds()),
-        ("of sets", sets()),
-        ("of names that aren't held", missing_names()),
+    let of_ours: [Case; 6] = [
+        ("of looks", &[0, 1, 2], looks()),
+        ("of bounds", &[0, 1, 2], bounds()),
+        ("of sets", &[0, 1, 2], sets()),
+        ("of names that aren't held", &[], missing_names()),
+        ("of partition 0", &[0], partition_0()),
+        ("of partition 0 taken", &[0], partition_0_taken()),
     ];
-    for (name, steps) in cases().into_iter().chain(of_ours) {
-        let outcome = run_case(system, &steps);
+    for (name, with_0, steps) in cases().into_iter().chain(of_ours) {
+        let outcome = run_case(system, with_0, &steps);
         report.check(&format!("case {name}, {who}"), outcome);
     }
+    report.check(&format!("case of openings, {who}"), openings(system));
+    let words = holdings_words(system);
+    report.check(&format!("case of words without the defaults, {who}"), words);
 }

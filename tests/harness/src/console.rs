@@ -103,6 +103,25 @@ const SET_SAYINGS: [&str; 10] = [
     "set of 64 readable",
 ];
 
+/// What can be said of a line by partition 0: with no other in its pairs, or, of a refusal by 7, with
+/// no other name in its fields. Each must come up as well.
+const DEFAULT_SAYINGS: [&str; 14] = [
+    "put in 0 done",
+    "put in 0 no13",
+    "look in 0 found",
+    "look in 0 none",
+    "look in 0 no13",
+    "receive in 0 found",
+    "receive in 0 none",
+    "receive in 0 no13",
+    "take in 0 found",
+    "take in 0 none",
+    "take in 0 no13",
+    "p0 done",
+    "p0 found",
+    "p0 no7",
+];
+
 /// Inputs of one make.
 struct Sort {
     name: &'static str,
@@ -260,6 +279,7 @@ pub fn compare(report: &mut Report, program: &str) {
         .chain(BOUND_SAYINGS)
         .chain(WORD_SAYINGS)
         .chain(SET_SAYINGS)
+        .chain(DEFAULT_SAYINGS)
         .filter(|saying| !said.contains_key(saying))
         .collect();
     let outcome = match missing.is_empty() {
@@ -280,7 +300,8 @@ pub fn check_variants(report: &mut Report) {
         .collect();
     let slips = ConsoleVariant::WORD_SLIPS
         .into_iter()
-        .chain(ConsoleVariant::SET_SLIPS);
+        .chain(ConsoleVariant::SET_SLIPS)
+        .chain(ConsoleVariant::DEFAULT_SLIPS);
     for variant in slips {
         let mut inputs = inputs.iter();
         let otherwise = |input: &Vec<u8>| console_with(variant, input) != reference::console(input);
@@ -349,7 +370,7 @@ fn note_sayings(output: &[u8], said: &mut BTreeMap<&'static str, u64>) {
     }
 }
 
-/// Notes what is said of each input line, by its bounds, by its word and by its sets.
+/// Notes what is said of each input line, by its bounds, by its word, by its sets and by partition 0.
 fn note_line_sayings(input: &[u8], output: &[u8], said: &mut BTreeMap<&'static str, u64>) {
     let (input, output) = (
         String::from_utf8_lossy(input),
@@ -358,7 +379,8 @@ fn note_line_sayings(input: &[u8], output: &[u8], said: &mut BTreeMap<&'static s
     for (line, answer) in answered_lines(&input, &output) {
         let sayings = bound_sayings(line, answer).into_iter();
         let sayings = sayings.chain(word_saying(line, answer));
-        for saying in sayings.chain(set_sayings(line, answer)) {
+        let sayings = sayings.chain(set_sayings(line, answer));
+        for saying in sayings.chain(default_sayings(line, answer)) {
             *said.entry(saying).or_default() += 1;
         }
     }
@@ -429,6 +451,28 @@ fn set_sayings(line: &str, answer: &str) -> Vec<&'static str> {
     let many = (most > 16 && !unreadable).then_some("set of more than 16 readable");
     let all = (most == 64 && !unreadable).then_some("set of 64 readable");
     known.into_iter().chain(many).chain(all).collect()
+}
+
+fn default_sayings(line: &str, answer: &str) -> Vec<&'static str> {
+    let items: Vec<&str> = line.split(' ').collect();
+    let [call, _, rpart, _, tpart, _, fields] = items[..] else {
+        return Vec::new();
+    };
+    let names: Vec<&str> = fields.split(',').filter(|field| is_name(field)).collect();
+    let in_0 = rpart == "0" && matches!(tpart, "0" | "-");
+    let carries_0 = match answer {
+        "no7" => !names.is_empty() && names.iter().all(|name| *name == "p0"),
+        _ => names.contains(&"p0"),
+    };
+    let in_pairs = in_0.then(|| format!("{call} in 0 {answer}"));
+    let in_fields = carries_0.then(|| format!("p0 {answer}"));
+    let said = in_pairs.into_iter().chain(in_fields);
+    said.filter_map(|saying| DEFAULT_SAYINGS.into_iter().find(|known| *known == saying))
+        .collect()
+}
+
+fn is_name(field: &str) -> bool {
+    field.starts_with(['p', 'k'])
 }
 
 /// What is printed for a line alone.

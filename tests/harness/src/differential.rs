@@ -3,6 +3,7 @@
 use crate::bounds;
 use crate::call::{Call, Kind};
 use crate::duel::{Duel, HAPPENINGS};
+use crate::partition_0;
 use crate::pool::{broken_roster, Maker, Mix, Pool, ALL_PARTIES};
 use crate::report::Report;
 use crate::rng::Rng;
@@ -11,8 +12,9 @@ use crate::sets;
 use crate::space::Space;
 use crate::tables::{damage_at_random, damaged_table, sound_table, Damage};
 use crate::tally::Tally;
-use reference::names::PARTIES;
-use reference::table::{broken_clause, ROSTER_WORDS, WORDS};
+use reference::names::{key_bit, partition_bit, PARTIES};
+use reference::table::{broken_clause, KEYS, PARTITIONS, ROSTER_WORDS, WORDS};
+use reference::{Clause, Reference, Variant};
 
 const RUNS_SEED: u64 = 4_001;
 const SOUND_SEED: u64 = 4_002;
@@ -20,6 +22,7 @@ const ONE_DAMAGE_SEED: u64 = 4_003;
 const RANDOM_DAMAGE_SEED: u64 = 4_004;
 const LENGTHS_SEED: u64 = 4_005;
 const ARGUMENTS_SEED: u64 = 4_006;
+const DEFAULTS_SEED: u64 = 4_007;
 
 const RUNS: u64 = 5_000;
 const SOUND_TABLES: u64 = 20_000;
@@ -27,6 +30,7 @@ const TABLES_OF_EACH_DAMAGE: u64 = 1_200;
 const RANDOMLY_DAMAGED_TABLES: u64 = 40_000;
 const SPACES_OF_EACH_LENGTH: u64 = 300;
 const TABLES_FOR_ARGUMENTS: u64 = 20_000;
+const TABLES_FOR_DEFAULTS: u64 = 10_000;
 const FEWEST_CALLS: u64 = 1_000_000;
 /// In each part, and as many receives.
 const FEWEST_LOOKS: u64 = 3_000;
@@ -60,7 +64,7 @@ struct Part {
     round: fn(&mut Duel, &mut Rng, u64) -> Result<(), String>,
 }
 
-const PARTS: [Part; 6] = [
+const PARTS: [Part; 7] = [
     Part {
         name: "runs from openings",
         seed: RUNS_SEED,
@@ -97,6 +101,12 @@ const PARTS: [Part; 6] = [
         rounds: TABLES_FOR_ARGUMENTS,
         round: arguments_round,
     },
+    Part {
+        name: "partition 0 taken away, then key 0",
+        seed: DEFAULTS_SEED,
+        rounds: TABLES_FOR_DEFAULTS,
+        round: defaults_round,
+    },
 ];
 
 /// Runs all parts and prints the table of answers.
@@ -113,6 +123,7 @@ pub fn compare(report: &mut Report, who: &str, system: &mut dyn Space) {
         bounds::ALL.concat(),
         rows::ALL.concat(),
         sets::all(),
+        partition_0::all(),
     ]
     .concat();
     let reached = tally.check(&expected).and_then(|text| {
@@ -141,6 +152,20 @@ pub fn first_difference(system: &mut dyn Space, in_damage: bool) -> Option<(u64,
         }
     }
     None
+}
+
+/// In how many rounds of each part a wrong reference differs, of the first so many.
+pub fn differing_rounds(variant: Variant, rounds: u64) -> Vec<(&'static str, u64)> {
+    let differs = |part: &Part, round: u64| {
+        let mut wrong = Reference::with(variant);
+        let mut rng = Rng::new(part.seed, round);
+        (part.round)(&mut Duel::new(&mut wrong), &mut rng, round).is_err()
+    };
+    let of_part = |part: &Part| {
+        let differing = (0..rounds).filter(|round| differs(part, *round));
+        (part.name, differing.count() as u64)
+    };
+    PARTS.iter().map(of_part).collect()
 }
 
 fn run_part(duel: &mut Duel, part: &Part) -> Result<String, String> {
@@ -330,4 +355,38 @@ fn arguments_round(duel: &mut Duel, rng: &mut Rng, _round: u64) -> Result<(), St
         step(duel, rng, number, &call)?;
     }
     Ok(())
+}
+
+/// Everybody's partition 0 is taken from one party or more, and the table is still sound. Then key 0
+/// is taken from one, and it isn't.
+fn defaults_round(duel: &mut Duel, rng: &mut Rng, _round: u64) -> Result<(), String> {
+    let pool = Pool::random(rng, 5, 2);
+    let maker = Maker {
+        pool: &pool,
+        parties: &ALL_PARTIES,
+        mix: MIXES[0],
+    };
+    let mut table = sound_table(rng, &pool);
+    let lacking = rng.between(1, (1 << PARTIES) - 1);
+    for party in 0..PARTIES {
+        table[PARTITIONS + party] |= partition_bit(0);
+        table[PARTITIONS + party] ^= (lacking >> party & 1) as u64 * partition_bit(0);
+    }
+    if let Some(clause) = broken_clause(&table) {
+        return Err(format!("the reference sees {clause:?} broken"));
+    }
+    duel.set_space(&table);
+    for number in 1..=4 {
+        let call = maker.call(rng, duel.space());
+        if step(duel, rng, number, &call)? == 101 {
+            return Err(format!("step {number}: refused by 1"));
+        }
+    }
+    let sound = duel.space().to_vec();
+    let mut unsound = sound.clone();
+    unsound[KEYS + rng.below(PARTIES)] &= !key_bit(0);
+    match broken_clause(&unsound) {
+        Some(Clause::DefaultKey) => refused_as_unsound(duel, rng, &pool, &sound, &unsound),
+        clause => Err(format!("without key 0 the reference sees {clause:?}")),
+    }
 }

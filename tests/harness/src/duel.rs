@@ -4,6 +4,7 @@ use crate::bounds;
 use crate::call::{answer_text, found_fields, Call, Kind};
 use crate::guarded::Guarded;
 use crate::missing::Missing;
+use crate::partition_0;
 use crate::pool::lacks_name_in;
 use crate::rng::Rng;
 use crate::rows;
@@ -123,6 +124,10 @@ impl<'a> Duel<'a> {
         self.tally.count(call, code);
         self.missing.count(call, code, &before.words);
         for what in bounds::happenings(call, code, self.references.result.lent(), before.rows()) {
+            self.tally.happened(what);
+        }
+        let result = self.references.result.lent();
+        for what in partition_0::happenings(call, code, result, &before.words, self.space()) {
             self.tally.happened(what);
         }
         let row = self.row_of(call, code, &before);

@@ -3,10 +3,11 @@
 
 use crate::bounds;
 use crate::call::{answer_text, found_fields, is_refusal, Call, Kind};
+use crate::partition_0;
 use crate::pool::{lacks_name_in, Maker, Mix, Pool, ALL_PARTIES};
 use crate::report::Report;
 use crate::rng::Rng;
-use crate::sets::{is_of_several, share};
+use crate::sets::{is_of_several, named_pairs, share};
 use crate::space::Space;
 use reference::names::{has_partition, key_bit, partition_bit, partitions_of, PARTIES};
 use reference::table::{live_rows, KEYS, PARTITIONS, READ_SET, WORDS, WRITER};
@@ -18,7 +19,7 @@ const SEED: u64 = 5_001;
 const CONTROL_SEED: u64 = 5_002;
 const VARIANT_SEED: u64 = 5_003;
 const PAIRS: u64 = 3_000;
-const CONTROL_PAIRS: u64 = 400;
+const CONTROL_PAIRS: u64 = 800;
 
 /// Whether the premise is kept, and if not, what breaks it.
 #[derive(Clone, Copy, Debug, PartialEq, Eq)]
@@ -31,6 +32,8 @@ enum Premise {
     GraspOfWholeSets,
     /// Only if its smallest partition is.
     GraspBySmallest,
+    /// Partition 0 is left out of the grasp, though a member has it.
+    GraspWithout0,
 }
 
 /// Names of a group, as words of holdings.
@@ -48,6 +51,7 @@ impl Names {
         let reached = match premise {
             Premise::GraspOfWholeSets => partitions.all(among),
             Premise::GraspBySmallest => partitions.next().is_some_and(among),
+            Premise::GraspWithout0 => partitions.filter(|at| *at > 0).any(among),
             _ => partitions.any(among),
         };
         reached && self.have_co_key(pair.key)
@@ -69,6 +73,19 @@ impl Names {
     fn spared_by_key(self, pair: Pair) -> bool {
         let in_part = share(pair.set, self.partitions) && share(pair.set, !self.partitions);
         in_part && !self.have_co_key(pair.key)
+    }
+
+    fn have_0(self) -> bool {
+        has_partition(self.partitions, 0)
+    }
+
+    /// Whether the pair is out of the grasp, and would be in it if these had partition 0.
+    fn spared_by_0(self, pair: Pair) -> bool {
+        let with_0 = Names {
+            partitions: self.partitions | partition_bit(0),
+            ..self
+        };
+        with_0.grasp(Premise::Kept, pair) && !self.grasp(Premise::Kept, pair)
     }
 
     fn contain(self, partitions: u64, keys: u64) -> bool {
@@ -100,7 +117,7 @@ impl Group {
             members: parties,
             others,
             names: Names {
-                partitions: partition_bit(0),
+                partitions: 0,
                 keys: key_bit(0),
             },
         }
@@ -110,6 +127,8 @@ impl Group {
         party.is_some_and(|party| self.members.contains(&party))
     }
 
+    /// Adds what the roster lists for members: with key 0, that is all that they hold once the
+    /// space is opened.
     fn add_names(&mut self, roster: &[u64]) {
         for member in &self.members {
             self.names.partitions |= roster[*member as usize];
@@ -146,6 +165,23 @@ impl Group {
     fn spares_by_key(&self, call: &Call, code: u32) -> bool {
         let mut pairs = premise_pairs(call).into_iter();
         !is_refusal(code) && pairs.any(|pair| self.names.spared_by_key(pair))
+    }
+
+    /// The pairs of an unrefused call that would be in the grasp if the group had partition 0; none
+    /// if one is in the grasp anyway.
+    fn spared_by_0(&self, call: &Call, code: u32) -> Vec<Pair> {
+        let pairs: Vec<Pair> = named_pairs(call)
+            .into_iter()
+            .map(|(_, pair)| pair)
+            .collect();
+        let reached = |pair: &Pair| self.names.grasp(Premise::Kept, *pair);
+        if is_refusal(code) || pairs.iter().any(reached) {
+            return Vec::new();
+        }
+        let spared = pairs
+            .into_iter()
+            .filter(|pair| self.names.spared_by_0(*pair));
+        spared.collect()
     }
 }
 
@@ -295,20 +331,29 @@ fn build_twins(rng: &mut Rng, premise: Premise) -> Twins {
     }
 }
 
-/// Two rosters with equal holdings of each member, and others as they come.
+/// Two rosters with equal holdings of each member, and others as they come. In more than half of
+/// them no member has partition 0, but for the control that is about it.
 fn rosters(rng: &mut Rng, pool: &Pool, group: &Group, premise: Premise) -> [Vec<u64>; 2] {
     let mut first = pool.roster(rng, 75);
     let mut second = pool.roster(rng, 75);
+    let without_0 = premise != Premise::GraspWithout0 && rng.percent(50);
     for member in &group.members {
         let member = *member as usize;
-        let (partitions, keys) = pool.holdings(rng, 45);
+        let (mut partitions, keys) = pool.holdings(rng, 45);
+        if without_0 {
+            partitions &= !partition_bit(0);
+        }
+        if partitions == 0 && rng.percent(80) {
+            // Who has no partition is refused everything.
+            partitions = partition_bit(rng.pick(&pool.partitions[1..]));
+        }
         for roster in [&mut first, &mut second] {
             (roster[member], roster[PARTIES + member]) = (partitions, keys);
         }
     }
     if premise == Premise::UnequalHoldings && !group.members.is_empty() {
         let member = rng.pick(&group.members) as usize;
-        second[member] ^= partition_bit(rng.pick(&pool.partitions).max(1));
+        second[member] ^= partition_bit(rng.pick(&pool.partitions));
     }
     [first, second]
 }
@@ -322,10 +367,18 @@ struct Sight {
     holdings: Vec<(u64, u64)>,
 }
 
+/// What the group saw in a run, and the first name of a member that isn't the group's.
+struct Watched {
+    sights: Vec<Sight>,
+    more_names: Option<String>,
+}
+
 /// What came of watching a pair of runs.
 enum Outcome {
     Alike,
     Different(String),
+    /// The group sees the same, but a member holds what isn't among the group's names.
+    MoreNames(String),
     /// The system answered calls from elsewhere so that the premise isn't met.
     PremiseNotMet(String),
 }
@@ -355,6 +408,50 @@ const SPARED_BY_KEY: &str =
     "runs with a set from elsewhere that overlaps the group's in part, spared by its key";
 const LEFT_OUT_BY_ONE: &str =
     "calls from elsewhere left out, in the grasp by one of several partitions";
+const WITHOUT_0: &str = "pairs in which no member has partition 0";
+const WITH_0: &str = "pairs in which a member has partition 0";
+const GROUP_LACKS_0: &str = "calls of the group refused by 13 for partition 0 alone";
+const GAINED_0: &str = "receives from elsewhere that gained partition 0, which no member has";
+/// Unrefused calls from elsewhere that are out of the grasp because the group lacks partition 0: of
+/// which kind, whether in {0}, and for other than puts only those that found something.
+const BY_0: [(Kind, bool, &str); 8] = [
+    (Kind::Put, true, "by 0, which no member has: puts in {0}"),
+    (
+        Kind::LOOK,
+        true,
+        "by 0, which no member has: looks in {0} found",
+    ),
+    (
+        Kind::RECEIVE,
+        true,
+        "by 0, which no member has: receives in {0} found",
+    ),
+    (
+        Kind::TAKE,
+        true,
+        "by 0, which no member has: takes in {0} found",
+    ),
+    (
+        Kind::Put,
+        false,
+        "by 0, which no member has: puts in 0 and others",
+    ),
+    (
+        Kind::LOOK,
+        false,
+        "by 0, which no member has: looks in 0 and others found",
+    ),
+    (
+        Kind::RECEIVE,
+        false,
+        "by 0, which no member has: receives in 0 and others found",
+    ),
+    (
+        Kind::TAKE,
+        false,
+        "by 0, which no member has: takes in 0 and others found",
+    ),
+];
 /// Looks and receives: whether they are the group's.
 const FOUND_BY_ANOTHER: [(bool, &str); 2] = [
     (true, "looks and receives of the group found by another set"),
@@ -459,19 +556,27 @@ impl Twins {
     fn watch(&self, system: &mut dyn Space, rng: &mut Rng, counts: &mut Counts) -> Outcome {
         let mut seen = Vec::new();
         let mut rows = Vec::new();
+        let mut more_names = None;
         for number in 0..2 {
             let mut space = vec![0; WORDS];
             match self.watch_run(system, rng, number, &mut space, counts) {
-                Ok(sights) => seen.push(sights),
+                Ok(watched) => {
+                    more_names = more_names.or(watched.more_names);
+                    seen.push(watched.sights);
+                }
                 Err(outcome) => return outcome,
             }
             rows.push(self.group_rows(&space));
         }
         counts.add_if(ROWS_DIFFER, rows[0] != rows[1]);
+        let members = !self.group.members.is_empty();
+        counts.add_if(WITHOUT_0, members && !self.group.names.have_0());
+        counts.add_if(WITH_0, self.group.names.have_0());
         *counts.0.entry(LEFT_OUT_BY_ONE).or_default() += self.left_out_by_one;
-        match first_difference(&seen[0], &seen[1]) {
-            Some(text) => Outcome::Different(text),
-            None => Outcome::Alike,
+        match (first_difference(&seen[0], &seen[1]), more_names) {
+            (Some(text), _) => Outcome::Different(text),
+            (None, Some(text)) => Outcome::MoreNames(text),
+            (None, None) => Outcome::Alike,
         }
     }
 
@@ -482,30 +587,49 @@ impl Twins {
         number: usize,
         space: &mut [u64],
         counts: &mut Counts,
-    ) -> Result<Vec<Sight>, Outcome> {
+    ) -> Result<Watched, Outcome> {
         let run = &self.runs[number];
         let opened = system.open(space, &run.roster);
         let mut sights = vec![self.sight(space, opened, &[])];
         let mut spared = false;
-        self.check_names(number, 0, space)?;
+        let mut more_names = self.more_names(number, 0, space);
         for (index, call) in run.calls.iter().enumerate() {
+            let held = partition_0::held_by_party(call, space);
             // What the result held before is free, so it is different in every run.
             let (code, result) = make(system, call, space, rng.word());
-            self.check_names(number, index + 1, space)?;
+            more_names = more_names.or_else(|| self.more_names(number, index + 1, space));
             let of_group = self.group.has(call.party());
             let fields = found_fields(call.kind(), code, &result);
             counts.answered(of_group, call, code);
             self.note_found(counts, call, space, fields);
             if of_group {
                 sights.push(self.sight(space, code, fields));
+                let lacks_0 = code == 113 && partition_0::lacks_it_alone(call, held);
+                counts.add_if(GROUP_LACKS_0, lacks_0);
             } else {
                 self.check_premise(number, index + 1, call, code)?;
                 spared |= self.group.spares_by_key(call, code);
+                let gained = partition_0::held_by_party(call, space) & !held;
+                self.note_by_0(counts, call, code, gained);
             }
         }
         counts.add_if(SPARED_BY_KEY, spared);
         sights.push(self.sight(space, 0, &[]));
-        Ok(sights)
+        Ok(Watched { sights, more_names })
+    }
+
+    /// Notes what a call from elsewhere did by partition 0, and whether it gained it, while no
+    /// member has it.
+    fn note_by_0(&self, counts: &mut Counts, call: &Call, code: u32, gained: u64) {
+        let pairs = self.group.spared_by_0(call, code);
+        for (kind, alone, what) in BY_0 {
+            let such = |pair: &Pair| (pair.set == partition_bit(0)) == alone;
+            let done = kind == Kind::Put || code > 0;
+            let of_kind = kind == call.kind() && done;
+            counts.add_if(what, of_kind && pairs.iter().any(such));
+        }
+        let gained = has_partition(gained, 0) && call.kind() == Kind::RECEIVE;
+        counts.add_if(GAINED_0, gained && !self.group.names.have_0());
     }
 
     /// Notes which names a look has found, and whose entry a look or a receive, and by which set.
@@ -568,19 +692,20 @@ impl Twins {
             .collect()
     }
 
-    /// All that members hold is among the group's names, at every point of the run.
-    fn check_names(&self, number: usize, calls: usize, space: &[u64]) -> Result<(), Outcome> {
-        for member in &self.group.members {
+    /// What a member holds that isn't among the group's names; none may, at any point of the run.
+    fn more_names(&self, number: usize, calls: usize, space: &[u64]) -> Option<String> {
+        let mut members = self.group.members.iter();
+        members.find_map(|member| {
             let (partitions, keys) = holdings(space, *member as usize);
-            if !self.group.names.contain(partitions, keys) {
-                return Err(Outcome::Different(format!(
+            let more = !self.group.names.contain(partitions, keys);
+            more.then(|| {
+                format!(
                     "run {number}, after {calls} calls: member {member} holds {partitions:#x} and \
                      {keys:#x}, more than the group's {:x?}",
                     self.group.names
-                )));
-            }
-        }
-        Ok(())
+                )
+            })
+        })
     }
 
     fn check_premise(
@@ -622,7 +747,7 @@ fn isolation(system: &mut dyn Space) -> Result<String, String> {
         let twins = build_twins(&mut rng, Premise::Kept);
         match twins.watch(system, &mut rng, &mut counts) {
             Outcome::Alike => {}
-            Outcome::Different(text) | Outcome::PremiseNotMet(text) => {
+            Outcome::Different(text) | Outcome::MoreNames(text) | Outcome::PremiseNotMet(text) => {
                 return Err(format!("seed {SEED}, pair {number}, {text}"));
             }
         }
@@ -639,7 +764,9 @@ fn isolation(system: &mut dyn Space) -> Result<String, String> {
         .chain(NAMES_LOOKED_AT.map(|(_, what)| what))
         .chain(ENTRIES_OF_GROUP.map(|(_, what)| what))
         .chain(FOUND_BY_ANOTHER.map(|(_, what)| what))
-        .chain([ROWS_DIFFER, SPARED_BY_KEY, LEFT_OUT_BY_ONE]);
+        .chain(BY_0.map(|(.., what)| what))
+        .chain([ROWS_DIFFER, SPARED_BY_KEY, LEFT_OUT_BY_ONE])
+        .chain([WITHOUT_0, WITH_0, GROUP_LACKS_0, GAINED_0]);
     for what in expected {
         if counts.of(what) == 0 {
             return Err(format!("seed {SEED}: never happened: {what}"));
@@ -654,15 +781,19 @@ fn isolation(system: &mut dyn Space) -> Result<String, String> {
 /// How many pairs with this premise differ, of `CONTROL_PAIRS`.
 fn differing_pairs(system: &mut dyn Space, seed: u64, premise: Premise) -> Result<String, String> {
     let mut counts = Counts::default();
-    let mut differing = 0;
+    let (mut differing, mut more_names) = (0, 0);
     for number in 0..CONTROL_PAIRS {
         let mut rng = Rng::new(seed, number);
         let twins = build_twins(&mut rng, premise);
-        if let Outcome::Different(_) = twins.watch(system, &mut rng, &mut counts) {
-            differing += 1;
+        match twins.watch(system, &mut rng, &mut counts) {
+            Outcome::Different(_) => differing += 1,
+            Outcome::MoreNames(_) => more_names += 1,
+            Outcome::Alike | Outcome::PremiseNotMet(_) => {}
         }
     }
-    let text = format!("seed {seed}, {differing} of {CONTROL_PAIRS} pairs differ");
+    let text = format!(
+        "seed {seed}, {differing} of {CONTROL_PAIRS} pairs differ, {more_names} more by names held"
+    );
     match differing {
         0 => Err(text),
         _ => Ok(text),
@@ -678,6 +809,7 @@ pub fn check(report: &mut Report, who: &str, system: &mut dyn Space) {
         Premise::UnequalHoldings,
         Premise::GraspOfWholeSets,
         Premise::GraspBySmallest,
+        Premise::GraspWithout0,
     ] {
         let outcome = differing_pairs(system, CONTROL_SEED, premise);
         report.check(&format!("isolation, {who}: control {premise:?}"), outcome);
@@ -700,9 +832,47 @@ pub fn check_variants(report: &mut Report) {
         Variant::HeldBelow32IsEnough,
         Variant::HeldByAnybodyIsEnough,
         Variant::OneOfSeveralIsForgiven,
+        Variant::OpensWithPartition0,
+        Variant::FreePartition0,
+        Variant::Partition0IsHeldInPairs,
     ] {
         let mut system = Reference::with(variant);
         let outcome = differing_pairs(&mut system, VARIANT_SEED, Premise::Kept);
         report.check(&format!("isolation shows {variant:?}"), outcome);
+    }
+}
+
+#[cfg(test)]
+mod tests {
+    use super::*;
+
+    /// Of party 1 with partition 5 in the roster, and with 0 and 5.
+    #[test]
+    fn partition_0_is_in_the_grasp_only_if_listed() {
+        let names_of = |partitions| {
+            let mut group = Group {
+                members: vec![1],
+                others: vec![0, 2, 3, 4, 5, 6, 7],
+                names: Names {
+                    partitions: 0,
+                    keys: key_bit(0),
+                },
+            };
+            let mut roster = [0; 16];
+            (roster[1], roster[2]) = (partitions, u64::MAX);
+            group.add_names(&roster);
+            group.names
+        };
+        let grasp = |names: Names, set| names.grasp(Premise::Kept, Pair { set, key: 0 });
+        let (without, with) = (names_of(32), names_of(33));
+        // {0}, {0, 9} and {5}, and then {0, 5}.
+        for (set, by_5) in [(1, false), (513, false), (32, true), (33, true)] {
+            assert_eq!(grasp(without, set), by_5, "{set}");
+            assert!(grasp(with, set), "{set}");
+            let spared = without.spared_by_0(Pair { set, key: 0 });
+            assert_eq!(spared, !by_5, "{set}");
+        }
+        // Key 4, whose co-key the group hasn't.
+        assert!(!without.spared_by_0(Pair { set: 1, key: 4 }));
     }
 }

@@ -6,6 +6,7 @@ use crate::differential::LENGTHS;
 use crate::duel::Desk;
 use crate::edge::{Edge, Side};
 use crate::guarded::Guarded;
+use crate::partition_0;
 use crate::pool::{lacks_name_in, Maker, Mix, Pool, ALL_PARTIES, MOST_WORDS};
 use crate::report::Report;
 use crate::rng::Rng;
@@ -111,6 +112,7 @@ pub fn some_space(rng: &mut Rng, pool: &Pool) -> (Vec<u64>, Vec<u64>) {
 struct Counts {
     answers: BTreeMap<u32, u64>,
     new_names: u64,
+    of_0: partition_0::Counts,
 }
 
 impl Counts {
@@ -118,6 +120,9 @@ impl Counts {
         *self.answers.entry(code).or_default() += 1;
         let new_name = lacks_name_in(&asked.space, asked.query.party, found);
         self.new_names += u64::from(new_name);
+        let call = asked.call(Operation::Look);
+        let held = partition_0::held_by_party(&call, &asked.space);
+        self.of_0.add(&call, code, held);
     }
 
     fn of(&self, such: impl Fn(u32) -> bool) -> u64 {
@@ -132,11 +137,12 @@ impl Counts {
             .map(|(kind, code)| answer_text(kind, code))
             .collect();
         let text = format!(
-            "{} found, {} with names not held, {} none, {} refused",
+            "{} found, {} with names not held, {} none, {} refused; {}",
             self.of(|code| (1..=8).contains(&code)),
             self.new_names,
             self.of(|code| code == 0),
-            self.of(is_refusal)
+            self.of(is_refusal),
+            self.of_0.finish()?
         );
         match missing.is_empty() && self.new_names > 0 {
             true => Ok(text),

@@ -21,12 +21,14 @@ mod guarded;
 mod isolation;
 #[cfg(library_linked)]
 mod library;
+mod listed;
 mod looks;
 mod missing;
 mod order;
 mod order_files;
 mod order_lists;
 mod order_tally;
+mod partition_0;
 mod pool;
 mod program;
 mod report;
@@ -106,10 +108,12 @@ fn run_part(report: &mut Report, part: &str) -> Result<(), &'static str> {
         }
         "variants" => {
             variants::check(report);
+            variants::check_defaults(report);
             rows::check_variants(report);
             looks::check_variants(report);
             singles::check_variants(report);
             told_apart::check_variants(report);
+            listed::check_variants(report);
             isolation::check_variants(report);
             console::check_variants(report);
             roster::check_variants(report);
@@ -143,6 +147,7 @@ fn compare_calls(report: &mut Report, who: &str, system: &mut dyn Space) {
     looks::check(report, who, system);
     singles::check(report, who, system);
     told_apart::check(report, who, system);
+    listed::check(report, who, system);
 }
 
 #[cfg(library_linked)]

@@ -246,7 +246,7 @@ mod tests {
     fn what_a_put_lacks() {
         let mut space = vec![0; reference::table::WORDS];
         let mut roster = [0; 16];
-        (roster[0], roster[8]) = (1 << 5, 1 << 35);
+        (roster[0], roster[8]) = (33, 1 << 35);
         reference::Reference::correct().open(&mut space, &roster);
         let of = |read, take, fields: &[Field]| {
             let call = Call::Put {
@@ -265,5 +265,28 @@ mod tests {
         let names = [Field::Message(9), Field::Partition(9), Field::Key(-4)];
         assert_eq!(of(pair(1, 0), pair(1, 0), &names), FIELDS);
         assert_eq!(of(pair(1, 0), pair(1, 0), &names[..2]), PARTITION_IN_FIELD);
+    }
+
+    /// Party 1 holds partition 5 and key 0.
+    #[test]
+    fn partition_0_is_lacked_as_any_other() {
+        let mut space = vec![0; reference::table::WORDS];
+        let mut roster = [0; 16];
+        roster[1] = 1 << 5;
+        reference::Reference::correct().open(&mut space, &roster);
+        let of = |read, take, field: Field| {
+            let pair = |set| Pair { set, key: 0 };
+            let call = Call::Put {
+                party: 1,
+                read: pair(read),
+                take: pair(take),
+                fields: vec![field.word()],
+            };
+            lacked(&call, &space)
+        };
+        assert_eq!(of(32, 32, Field::Key(0)), 0);
+        assert_eq!(of(1, 32, Field::Key(0)), READ_SET);
+        assert_eq!(of(32, 33, Field::Key(0)), TAKE_SET);
+        assert_eq!(of(32, 32, Field::Partition(0)), PARTITION_IN_FIELD);
     }
 }

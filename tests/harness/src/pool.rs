@@ -2,6 +2,7 @@
 
 use crate::call::{Call, Kind, Query};
 use crate::missing;
+use crate::partition_0;
 use crate::rng::Rng;
 use crate::sets::pair_that_counts;
 use reference::names::{
@@ -26,11 +27,12 @@ pub struct Pool {
 }
 
 impl Pool {
-    /// The defaults with this many partitions and pairs of key and co-key at most.
+    /// Partition 0 with another or more, and key 0: this many partitions and pairs of key and co-key
+    /// at most.
     pub fn random(rng: &mut Rng, most_partitions: usize, most_keys: usize) -> Pool {
         let mut partitions = vec![0];
-        for _ in 0..rng.between(0, most_partitions) {
-            let any = rng.below(LAST_PARTITION as usize + 1) as u32;
+        for _ in 0..rng.between(1, most_partitions) {
+            let any = rng.between(1, LAST_PARTITION as usize) as u32;
             partitions.push(rng.pick(&[1, 31, 32, LAST_PARTITION, any]));
         }
         let mut keys = vec![0];
@@ -64,12 +66,13 @@ impl Pool {
         (partitions, keys)
     }
 
-    /// A good roster of such holdings.
+    /// A good roster of such holdings, often with partition 0 for others than by this chance.
     pub fn roster(&self, rng: &mut Rng, chance: usize) -> Vec<u64> {
         let mut roster = vec![0; ROSTER_WORDS];
         for party in 0..PARTIES {
             (roster[party], roster[PARTIES + party]) = self.holdings(rng, chance);
         }
+        partition_0::spread(rng, &mut roster[..PARTIES]);
         roster
     }
 
@@ -308,9 +311,13 @@ impl Maker<'_> {
                 return pair;
             }
         }
-        match rng.percent(80) {
-            true => Pair::of_one(0, 0),
-            false => self.pool.pair(rng),
+        let all = 0..=LAST_PARTITION;
+        let held: Vec<u32> = all
+            .filter(|at| holds_partition(space, party, *at))
+            .collect();
+        match held.is_empty() || rng.percent(20) {
+            true => self.pool.pair(rng),
+            false => Pair::of_one(rng.pick(&held), 0),
         }
     }
 
@@ -413,11 +420,17 @@ impl Unheld {
         (!unheld.partitions.is_empty() && !unheld.keys.is_empty()).then_some(unheld)
     }
 
+    /// Such a partition, often the smallest: that is 0 if it isn't held.
+    fn partition(&self, rng: &mut Rng) -> u32 {
+        let any = rng.pick(&self.partitions);
+        rng.pick(&[self.partitions[0], any, any])
+    }
+
     /// Puts such names into a pair; the set may keep the others that it has.
     fn lack_in_pair(&self, rng: &mut Rng, pair: &mut Pair, in_set: bool, in_key: bool) {
         if in_set {
             let others = rng.pick(&[0, pair.set]);
-            pair.set = others | partition_bit(rng.pick(&self.partitions));
+            pair.set = others | partition_bit(self.partition(rng));
         }
         if in_key {
             pair.key = rng.pick(&self.keys);
@@ -446,7 +459,7 @@ fn lack_names(rng: &mut Rng, space: &[u64], call: &mut Call) {
     }
     if has(missing::PARTITION_IN_FIELD) {
         set_some_field(rng, call, |rng| {
-            Field::Partition(rng.pick(&unheld.partitions)).word()
+            Field::Partition(unheld.partition(rng)).word()
         });
     }
     if has(missing::KEY_IN_FIELD) {

@@ -108,10 +108,14 @@ fn good_line(rng: &mut Rng, few: bool) -> String {
     }
 }
 
+/// Some have partition 0 for about half of the parties, or for all.
 fn good_lines(rng: &mut Rng) -> Vec<String> {
     let few = rng.percent(30);
     let count = rng.pick(&[0, 1, 2, 4, 8, 16, 40, 120]);
     let mut lines: Vec<String> = (0..count).map(|_| good_line(rng, few)).collect();
+    let chance = rng.pick(&[0, 0, 50, 100]);
+    let with_0 = (0..8).filter(|_| rng.percent(chance));
+    lines.extend(with_0.map(|party| format!("{party} p 0")));
     if rng.percent(20) {
         lines.extend(lines.clone());
     }

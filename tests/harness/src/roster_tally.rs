@@ -5,8 +5,12 @@ use reference::roster::{Name, Right, LONGEST_FILE};
 use reference::{RosterReader, RosterVariant, TextSlip};
 
 /// What can be said of a file; each must come up.
-pub const SAYINGS: [&str; 23] = [
+pub const SAYINGS: [&str; 27] = [
     "accepted, no rights",
+    "accepted, partition 0 for nobody",
+    "accepted, partition 0 for some",
+    "accepted, partition 0 for all",
+    "accepted, key 0 for nobody",
     "accepted, rights",
     "accepted, all rights",
     "accepted, a right twice",
@@ -49,6 +53,20 @@ fn sayings_of_accepted(file: &[u8], rights: &[Right]) -> Vec<&'static str> {
         [] => "accepted, no rights",
         _ => "accepted, rights",
     }];
+    let holders = |name: Name| {
+        let such = ordered
+            .iter()
+            .filter(|at| (at.1, at.2) == kind_and_number(name));
+        such.count()
+    };
+    said.push(match holders(Name::Partition(0)) {
+        0 => "accepted, partition 0 for nobody",
+        8 => "accepted, partition 0 for all",
+        _ => "accepted, partition 0 for some",
+    });
+    if holders(Name::Key(0)) == 0 {
+        said.push("accepted, key 0 for nobody");
+    }
     if ordered.len() == 8 * 127 {
         said.push("accepted, all rights");
     }
@@ -66,9 +84,15 @@ fn sayings_of_accepted(file: &[u8], rights: &[Right]) -> Vec<&'static str> {
 
 /// Where a right stands among those that are printed.
 fn place(right: Right) -> (usize, bool, i32) {
-    match right.name {
-        Name::Partition(partition) => (right.party, false, partition as i32),
-        Name::Key(key) => (right.party, true, key),
+    let (kind, number) = kind_and_number(right.name);
+    (right.party, kind, number)
+}
+
+/// Partitions before keys.
+fn kind_and_number(name: Name) -> (bool, i32) {
+    match name {
+        Name::Partition(partition) => (false, partition as i32),
+        Name::Key(key) => (true, key),
     }
 }
 

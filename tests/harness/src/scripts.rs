@@ -300,10 +300,15 @@ struct Script {
 }
 
 impl Script {
-    /// The names line and the gives.
+    /// The names line and the gives. Partition 0 is mostly given to some.
     fn new(rng: &mut Rng, pool: &Pool) -> Script {
         let mut roster = vec![0; ROSTER_WORDS];
         let mut text = format!("{INPUT_NAMES}\n");
+        let chance = rng.pick(&[0, 50, 50, 100]);
+        for party in (0..PARTIES).filter(|_| rng.percent(chance)) {
+            roster[party] |= partition_bit(0);
+            text.push_str(&format!("give {party} 0 - - - -\n"));
+        }
         for _ in 0..rng.pick(&[0, 1, 8, 24]) {
             let party = rng.below(PARTIES);
             let (partition, key) = (rng.pick(&pool.partitions), rng.pick(&pool.keys));
@@ -405,7 +410,7 @@ fn field_text(word: u64) -> Option<String> {
 }
 
 /// The lines that are changed item by item, with good lines before and after.
-const BEFORE: &str = "give 0 5 4 - - -\n";
+const BEFORE: &str = "give 0 5 4 - - -\ngive 0 0 - - - -\n";
 const ITEM_LINES: [&str; 5] = [
     "give 1 5 -4 - - -",
     "put 0 5 4 5 4 m1,p5,k4",

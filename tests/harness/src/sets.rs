@@ -11,7 +11,7 @@ use reference::{co_key, Field, Operation, Pair};
 /// What is counted, for looks, receives and takes.
 type Three = [&'static str; 3];
 /// For the two pairs of a put, and for looks, receives and takes.
-type Five = [&'static str; 5];
+pub type Five = [&'static str; 5];
 
 const FOUND_BY_ANOTHER: Three = [
     "sets: look found by another set",
@@ -164,7 +164,7 @@ pub fn happenings(call: &Call, code: u32, before: &Before) -> Vec<&'static str> 
 }
 
 /// The pairs of a call, with their places in `Five`.
-fn named_pairs(call: &Call) -> Vec<(usize, Pair)> {
+pub fn named_pairs(call: &Call) -> Vec<(usize, Pair)> {
     match call {
         Call::Open { .. } => Vec::new(),
         Call::Put { read, take, .. } => vec![(0, *read), (1, *take)],

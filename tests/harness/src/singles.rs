@@ -2,6 +2,7 @@
 //! The same runs, by sets with a system and by numbers with the reference of those rules.
 
 use crate::call::{answer_text, is_refusal, Call, Kind};
+use crate::partition_0;
 use crate::pool::{Maker, Mix, Pool, ALL_PARTIES};
 use crate::report::Report;
 use crate::rng::Rng;
@@ -66,11 +67,13 @@ fn pairs_of(call: &mut Call) -> Vec<&mut Pair> {
 struct Counts {
     answers: BTreeMap<(Kind, u32), u64>,
     partitions: BTreeSet<u64>,
+    of_0: partition_0::Counts,
 }
 
 impl Counts {
-    fn add(&mut self, both: &mut Both, code: u32) {
+    fn add(&mut self, both: &mut Both, code: u32, held: u64) {
         let kind = both.by_sets.kind();
+        self.of_0.add(&both.by_sets, code, held);
         *self.answers.entry((kind, code)).or_default() += 1;
         if !is_refusal(code) {
             let named = pairs_of(&mut both.by_numbers).into_iter();
@@ -97,9 +100,10 @@ impl Counts {
         };
         let calls: u64 = self.answers.values().sum();
         Ok(format!(
-            "{calls} calls alike, {} found, {} none, each of {partitions} partitions named",
+            "{calls} calls alike, {} found, {} none, each of {partitions} partitions named, {}",
             all(|code| (1..=8).contains(&code)),
-            all(|code| code == 0)
+            all(|code| code == 0),
+            self.of_0.finish()?
         ))
     }
 }
@@ -160,8 +164,9 @@ fn run(system: &mut dyn Space, rng: &mut Rng, counts: &mut Counts) -> Result<(),
     for _ in 0..rng.pick(&[30, 100, 180, 300]) {
         let call = maker.call(rng, &spaces.by_sets);
         let mut both = Both::of(rng, call);
+        let held = partition_0::held_by_party(&both.by_sets, &spaces.by_sets);
         let code = spaces.call(system, &both, rng)?;
-        counts.add(&mut both, code);
+        counts.add(&mut both, code, held);
     }
     Ok(())
 }
@@ -210,6 +215,11 @@ pub fn check_variants(report: &mut Report) {
         Variant::OneRefusalForNames,
         Variant::KeysBeforePartitions,
         Variant::NamesPairByPair,
+        Variant::OpensWithPartition0,
+        Variant::OpensWithoutPartition0,
+        Variant::WantsPartition0,
+        Variant::Partition0IsHeldInPairs,
+        Variant::Partition0IsHeldInFields,
     ] {
         let outcome = match compare_runs(&mut Reference::with(variant)) {
             Err((alike, _)) => Ok(format!("after {alike} runs alike")),

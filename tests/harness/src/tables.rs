@@ -1,9 +1,10 @@
 //! Tables that no run need have made: sound ones, and ones damaged in one known way.
 
+use crate::partition_0;
 use crate::pool::Pool;
 use crate::rng::Rng;
 use reference::names::{
-    key_bit, partition_bit, stored_key, LAST_PARTITION, LAST_STORED_KEY, MOST_FIELDS, PARTIES,
+    key_bit, stored_key, LAST_PARTITION, LAST_STORED_KEY, MOST_FIELDS, PARTIES,
 };
 use reference::table::{
     row_start, rows_of_writer, FIELDS, FIELD_COUNT, FIRST_ROW, KEYS, LIMIT, LIVE, PARTITIONS,
@@ -20,9 +21,10 @@ pub fn sound_table(rng: &mut Rng, pool: &Pool) -> Vec<u64> {
             1 => (rng.word(), rng.word() >> 1),
             _ => pool.holdings(rng, 70),
         };
-        space[PARTITIONS + party] = partitions | partition_bit(0);
+        space[PARTITIONS + party] = partitions;
         space[KEYS + party] = keys | key_bit(0);
     }
+    partition_0::spread(rng, &mut space[PARTITIONS..PARTITIONS + PARTIES]);
     let some = rng.between(3, ROWS - 2);
     let live = rng.pick(&[0, 1, 2, some, some, ROWS - 1, ROWS]);
     for (index, writer) in writers(rng).into_iter().take(live).enumerate() {
@@ -65,7 +67,6 @@ pub enum Damage {
     LiveAbove128,
     LiveOneTooMany,
     LiveOneTooFew,
-    NoDefaultPartition,
     NoDefaultKey,
     KeyBit63,
     Writer,
@@ -89,11 +90,10 @@ pub enum Damage {
 }
 
 impl Damage {
-    pub const ALL: [Damage; 24] = [
+    pub const ALL: [Damage; 23] = [
         Damage::LiveAbove128,
         Damage::LiveOneTooMany,
         Damage::LiveOneTooFew,
-        Damage::NoDefaultPartition,
         Damage::NoDefaultKey,
         Damage::KeyBit63,
         Damage::Writer,
@@ -123,7 +123,6 @@ impl Damage {
             Damage::LiveAbove128 => Clause::LiveCount,
             Damage::LiveOneTooMany => Clause::ReadSet,
             Damage::LiveOneTooFew => Clause::RowsPastLive,
-            Damage::NoDefaultPartition => Clause::DefaultPartition,
             Damage::NoDefaultKey => Clause::DefaultKey,
             Damage::KeyBit63 => Clause::KeyBit63,
             Damage::Writer => Clause::Writer,
@@ -153,9 +152,7 @@ impl Damage {
             | Damage::LiveOneTooFew
             | Damage::RowPastLive
             | Damage::LastWord => self.damage_count(rng, space),
-            Damage::NoDefaultPartition | Damage::NoDefaultKey | Damage::KeyBit63 => {
-                self.damage_holdings(rng, space)
-            }
+            Damage::NoDefaultKey | Damage::KeyBit63 => self.damage_holdings(rng, space),
             Damage::SeventeenRows => add_seventeenth_row(rng, space),
             _ if space[LIVE] == 0 => false,
             _ => {
@@ -185,7 +182,6 @@ impl Damage {
     fn damage_holdings(self, rng: &mut Rng, space: &mut [u64]) -> bool {
         let party = rng.below(PARTIES);
         match self {
-            Damage::NoDefaultPartition => space[PARTITIONS + party] &= !partition_bit(0),
             Damage::NoDefaultKey => space[KEYS + party] &= !key_bit(0),
             _ => space[KEYS + party] |= 1 << 63,
         }
@@ -336,6 +332,19 @@ mod tests {
             let pool = Pool::random(&mut rng, 3, 2);
             assert_eq!(broken_clause(&sound_table(&mut rng, &pool)), None);
         }
+    }
+
+    #[test]
+    fn partition_0_is_held_by_all_some_or_nobody() {
+        let mut holders = [0; PARTIES + 1];
+        for run in 0..500 {
+            let mut rng = Rng::new(3, run);
+            let pool = Pool::random(&mut rng, 3, 2);
+            let table = sound_table(&mut rng, &pool);
+            let words = table[PARTITIONS..PARTITIONS + PARTIES].iter();
+            holders[words.filter(|word| *word & 1 == 1).count()] += 1;
+        }
+        assert!(holders.iter().all(|tables| *tables > 0), "{holders:?}");
     }
 
     #[test]

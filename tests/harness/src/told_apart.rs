@@ -4,6 +4,7 @@
 use crate::call::{answer_text, Call, Kind};
 use crate::duel::Desk;
 use crate::looks::some_space;
+use crate::partition_0;
 use crate::pool::{broken_roster, Maker, Mix, Pool, ALL_PARTIES};
 use crate::report::Report;
 use crate::rng::Rng;
@@ -27,24 +28,27 @@ fn as_before(code: u32) -> u32 {
 
 /// How often each answer came.
 #[derive(Default)]
-struct Counts(BTreeMap<(Kind, u32), u64>);
+struct Counts {
+    answers: BTreeMap<(Kind, u32), u64>,
+    of_0: partition_0::Counts,
+}
 
 impl Counts {
     fn of(&self, kind: Kind, code: u32) -> u64 {
-        *self.0.get(&(kind, code)).unwrap_or(&0)
+        *self.answers.get(&(kind, code)).unwrap_or(&0)
     }
 
     /// Every answer that the rules make possible must have come.
     fn finish(&self) -> Result<String, String> {
         let wanted = Kind::ALL.into_iter().flat_map(answers_of);
         let missing: Vec<String> = wanted
-            .filter(|answer| !self.0.contains_key(answer))
+            .filter(|answer| !self.answers.contains_key(answer))
             .map(|(kind, code)| format!("{}: {}", kind.word(), answer_text(kind, code)))
             .collect();
         if !missing.is_empty() {
             return Err(format!("never: {}", missing.join(", ")));
         }
-        let calls: u64 = self.0.values().sum();
+        let calls: u64 = self.answers.values().sum();
         let told_apart = Kind::ALL[1..].iter().map(|kind| {
             let [by_13, by_14, by_7] = FOR_NAMES.map(|code| self.of(*kind, code));
             let word = kind.word();
@@ -52,8 +56,9 @@ impl Counts {
         });
         let told_apart: Vec<String> = told_apart.collect();
         Ok(format!(
-            "{calls} calls alike; of 7 before: {}",
-            told_apart.join("; ")
+            "{calls} calls alike; of 7 before: {}; {}",
+            told_apart.join("; "),
+            self.of_0.finish()?
         ))
     }
 }
@@ -106,8 +111,10 @@ impl Both<'_> {
                 0..3 => an_opening(rng, &pool),
                 _ => maker.call(rng, &sound),
             };
+            let held = partition_0::held_by_party(&call, self.systems.space.lent());
             let code = self.call(&call, rng)?;
-            *counts.0.entry((call.kind(), code)).or_default() += 1;
+            *counts.answers.entry((call.kind(), code)).or_default() += 1;
+            counts.of_0.add(&call, code, held);
         }
         Ok(())
     }

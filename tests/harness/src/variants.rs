@@ -1,8 +1,11 @@
 //! The harness itself is tested: each wrong variant of the reference must be caught.
 
-use crate::differential::first_difference;
+use crate::differential::{differing_rounds, first_difference};
 use crate::report::Report;
-use reference::{Reference, Variant};
+use reference::{Clause, Reference, Variant};
+
+/// So many rounds of each part are made with each slip about the defaults.
+const ROUNDS: u64 = 100;
 
 /// Compares every wrong variant with the right reference.
 pub fn check(report: &mut Report) {
@@ -13,6 +16,7 @@ pub fn check(report: &mut Report) {
         .chain(Variant::BOUND_SLIPS)
         .chain(Variant::SET_SLIPS)
         .chain(Variant::NAME_SLIPS)
+        .chain(Variant::DEFAULT_SLIPS)
         .chain(Variant::ROW_SLIPS)
         .chain(Variant::skipped_clauses());
     for variant in wrong {
@@ -22,6 +26,25 @@ pub fn check(report: &mut Report) {
             None => Err("not caught".to_string()),
         };
         report.check(&format!("differential catches {variant:?}"), outcome);
+    }
+}
+
+/// In how many rounds each slip about the defaults shows; one at least.
+pub fn check_defaults(report: &mut Report) {
+    let no_key_0 = Variant::Skips(Clause::DefaultKey);
+    for variant in Variant::DEFAULT_SLIPS.into_iter().chain([no_key_0]) {
+        let shown = differing_rounds(variant, ROUNDS);
+        let all: u64 = shown.iter().map(|(_, rounds)| rounds).sum();
+        let texts: Vec<String> = shown
+            .iter()
+            .map(|(part, rounds)| format!("{part} {rounds}"))
+            .collect();
+        let text = format!("of {ROUNDS} rounds each: {}", texts.join(", "));
+        let outcome = match all {
+            0 => Err(text),
+            _ => Ok(text),
+        };
+        report.check(&format!("differential shows {variant:?}"), outcome);
     }
 }
 

@@ -51,7 +51,7 @@ impl Reference {
         }
     }
 
-    /// Empties the space and sets the holdings.
+    /// Empties the space; each party then holds what the roster lists, and key 0.
     pub fn open(&mut self, space: &mut [u64], roster: &[u64]) -> Answer {
         if space.len() != WORDS {
             return Answer::Refused(1);
@@ -61,8 +61,8 @@ impl Reference {
         }
         space.fill(0);
         for party in 0..PARTIES {
-            space[PARTITIONS + party] = roster[party] | partition_bit(0);
-            space[KEYS + party] = roster[PARTIES + party] | key_bit(0);
+            space[PARTITIONS + party] = self.variant.partitions_opened(roster[party]);
+            space[KEYS + party] = self.variant.keys_opened(roster[PARTIES + party]);
         }
         self.charges = [0; PARTIES];
         Answer::Done
@@ -127,8 +127,10 @@ impl Reference {
         let party = query.party as usize;
         if self.gives_names(operation) {
             match self.variant {
-                Variant::GivesNamesOfTemplate => self.give_names(space, party, query.fields),
-                _ => self.give_names(space, party, &found),
+                Variant::GivesNamesOfTemplate => {
+                    self.give_names(operation, space, party, query.fields);
+                }
+                _ => self.give_names(operation, space, party, &found),
             }
             if self.variant == Variant::GivesReadSet {
                 space[PARTITIONS + party] |= set;
@@ -149,7 +151,7 @@ impl Reference {
         party: u32,
         fields: &[u64],
     ) -> Option<u32> {
-        if !self.sound(operation, space) {
+        if !self.sound(operation, space) || !self.variant.has_wanted_partition_0(space, party) {
             return Some(1);
         }
         if party as usize >= PARTIES {
@@ -417,10 +419,12 @@ impl Reference {
     }
 
     /// The party gains the names that these fields carry.
-    fn give_names(&self, space: &mut [u64], party: usize, fields: &[u64]) {
+    fn give_names(&self, operation: Operation, space: &mut [u64], party: usize, fields: &[u64]) {
         for word in fields {
             match Field::from_word(*word) {
-                Some(Field::Partition(partition)) => {
+                Some(Field::Partition(partition))
+                    if self.variant.gives_partition(operation, partition) =>
+                {
                     space[PARTITIONS + party] |= partition_bit(partition);
                 }
                 Some(Field::Key(key)) => {

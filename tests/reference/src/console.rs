@@ -95,9 +95,11 @@ struct Session {
 
 impl Session {
     fn new(variant: ConsoleVariant) -> Session {
+        let mut roster = [0; ROSTER_WORDS];
+        roster[..PARTIES].fill(variant.first_partitions());
         Session {
             variant,
-            roster: [0; ROSTER_WORDS],
+            roster,
             space: None,
             reference: Reference::correct(),
             calls: 0,
@@ -220,7 +222,7 @@ fn parse_give(variant: ConsoleVariant, party: &[u8], names: &[u8], key: &[u8]) -
     let partitions = match is_absent(names) {
         true => Vec::new(),
         false if variant == ConsoleVariant::GivesSets => parse_partitions(names)?,
-        false => vec![parse_partition(names)?],
+        false => variant.gift(parse_partition(names)?)?,
     };
     let key = match is_absent(key) {
         true => None,

@@ -1,6 +1,7 @@
 //! Known blunders of the console, to test whether a comparison catches them.
 
 use crate::calls::Operation;
+use crate::names::partition_bit;
 
 /// Which console to be: the right one, or one with a blunder.
 #[derive(Clone, Copy, Debug, PartialEq, Eq)]
@@ -56,6 +57,12 @@ pub enum ConsoleVariant {
     Partition63IsUnreadable,
     /// Reads a set in a gift.
     GivesSets,
+    /// Gives everybody partition 0, which no line has given.
+    GivesPartition0ToAll,
+    /// Gives nothing for a gift of partition 0.
+    GivesNoPartition0,
+    /// Can't read a gift of partition 0.
+    GiftOf0IsUnreadable,
 }
 
 impl ConsoleVariant {
@@ -91,6 +98,30 @@ impl ConsoleVariant {
         ConsoleVariant::Partition63IsUnreadable,
         ConsoleVariant::GivesSets,
     ];
+
+    /// Those about gifts of partition 0.
+    pub const DEFAULT_SLIPS: [ConsoleVariant; 3] = [
+        ConsoleVariant::GivesPartition0ToAll,
+        ConsoleVariant::GivesNoPartition0,
+        ConsoleVariant::GiftOf0IsUnreadable,
+    ];
+
+    /// The partitions that a party has before any line has given it some.
+    pub(crate) fn first_partitions(self) -> u64 {
+        match self {
+            ConsoleVariant::GivesPartition0ToAll => partition_bit(0),
+            _ => 0,
+        }
+    }
+
+    /// What a gift of this partition gives, and none if it can't be read.
+    pub(crate) fn gift(self, partition: u32) -> Option<Vec<u32>> {
+        match (self, partition) {
+            (ConsoleVariant::GiftOf0IsUnreadable, 0) => None,
+            (ConsoleVariant::GivesNoPartition0, 0) => Some(Vec::new()),
+            _ => Some(vec![partition]),
+        }
+    }
 
     /// The operation that a line's first item stands for.
     pub(crate) fn operation(self, item: &[u8]) -> Option<Operation> {

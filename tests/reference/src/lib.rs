@@ -10,6 +10,7 @@ pub mod answer;
 pub mod calls;
 pub mod console;
 pub mod console_variant;
+mod defaults;
 pub mod lines;
 mod missing;
 pub mod names;

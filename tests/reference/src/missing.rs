@@ -88,6 +88,7 @@ impl Reference {
     /// Whether the party lacks the name that a field carries. A slip finds one in a bound.
     fn lacks_carried(&self, space: &[u64], party: usize, field: Field) -> bool {
         match (self.variant, field) {
+            (Variant::Partition0IsHeldInFields, Field::Partition(0)) => false,
             (_, Field::Partition(partition)) => !holds_partition(space, party, partition),
             (_, Field::Key(key)) => !holds_key(space, party, key),
             (Variant::AtMostNamesPartition, Field::AtMost(number)) => {

@@ -145,7 +145,7 @@ impl RosterReader {
 
     /// The words of a roster with these rights.
     fn words(self, rights: &[Right]) -> [u64; ROSTER_WORDS] {
-        let mut words = [0; ROSTER_WORDS];
+        let mut words = std::array::from_fn(|place| self.variant.first_word(place));
         for right in rights {
             let (place, bit) = match right.name {
                 Name::Partition(partition) => (right.party, partition_bit(partition)),
@@ -209,7 +209,7 @@ impl RosterReader {
             return Err(fault);
         }
         let rights = lines.into_iter().collect::<Result<Vec<Right>, Fault>>()?;
-        self.variant.twice_slip(rights)
+        self.variant.rights_slip(rights)
     }
 
     /// What each line after the names line gives, or its fault. A fault of the whole file comes

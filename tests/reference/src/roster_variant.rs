@@ -1,7 +1,7 @@
 //! Known blunders about roster files, to test whether a comparison catches them.
 
 use crate::lines::Fault;
-use crate::names::PARTIES;
+use crate::names::{key_bit, partition_bit, PARTIES};
 use crate::roster::{Name, Right, LONGEST_FILE, ROSTER_NAMES};
 use crate::text_slip::{exchanged, TextSlip};
 use std::cmp::Reverse;
@@ -46,6 +46,8 @@ pub enum RosterVariant {
     TakesParty8,
     /// Gives the co-key instead of a key above 0.
     GivesCoKey,
+    /// Gives nobody partition 0.
+    GivesNoPartition0,
     /// Prints keys before partitions.
     PrintsKeysFirst,
     /// Prints keys from 31 down.
@@ -62,8 +64,10 @@ pub enum RosterVariant {
     PrintsRightTwice,
     /// Prints a party's keys for the next party.
     PrintsKeysOfAnother,
-    /// Prints partition 0 and key 0 for everybody.
-    PrintsDefaults,
+    /// Prints partition 0 for everybody.
+    PrintsPartition0,
+    /// Prints key 0 for everybody, which the opening adds.
+    PrintsKey0,
     /// Prints the names line before a refusal.
     PrintsNamesOfRefused,
     /// Prints no names line.
@@ -78,6 +82,10 @@ pub enum RosterVariant {
     BitsWrapAt32,
     /// Puts the keys into the first eight words.
     KeysInFirstWords,
+    /// Gives everybody partition 0 besides.
+    AddsPartition0,
+    /// Gives everybody key 0 besides, as only the opening does.
+    AddsKey0,
     /// A refused call leaves zeros.
     ClearsBeforeReading,
     /// A refused call leaves what the lines before the fault give.
@@ -98,7 +106,7 @@ pub enum RosterVariant {
 
 impl RosterVariant {
     /// Blunders of reading, seen in what is printed and in the words. `TextSlip::ALL` has more.
-    pub const OF_READING: [RosterVariant; 17] = [
+    pub const OF_READING: [RosterVariant; 18] = [
         RosterVariant::KeyWrapsBelowZero,
         RosterVariant::ElevenAndTwelveExchanged,
         RosterVariant::UnreadableLinesFirst,
@@ -116,10 +124,11 @@ impl RosterVariant {
         RosterVariant::TakesKeyMinus32,
         RosterVariant::TakesParty8,
         RosterVariant::GivesCoKey,
+        RosterVariant::GivesNoPartition0,
     ];
 
     /// Blunders of printing alone.
-    pub const OF_PRINTING: [RosterVariant; 13] = [
+    pub const OF_PRINTING: [RosterVariant; 14] = [
         RosterVariant::PrintsKeysFirst,
         RosterVariant::PrintsKeysFromTop,
         RosterVariant::PrintsPartitionsFromTop,
@@ -128,7 +137,8 @@ impl RosterVariant {
         RosterVariant::PrintsInOrderOfBytes,
         RosterVariant::PrintsRightTwice,
         RosterVariant::PrintsKeysOfAnother,
-        RosterVariant::PrintsDefaults,
+        RosterVariant::PrintsPartition0,
+        RosterVariant::PrintsKey0,
         RosterVariant::PrintsNamesOfRefused,
         RosterVariant::PrintsNoNames,
         RosterVariant::PrintsNamesOnlyWithRights,
@@ -136,10 +146,12 @@ impl RosterVariant {
     ];
 
     /// Blunders of the call alone.
-    pub const OF_WORDS: [RosterVariant; 11] = [
+    pub const OF_WORDS: [RosterVariant; 13] = [
         RosterVariant::KeyStoredWithout31,
         RosterVariant::BitsWrapAt32,
         RosterVariant::KeysInFirstWords,
+        RosterVariant::AddsPartition0,
+        RosterVariant::AddsKey0,
         RosterVariant::ClearsBeforeReading,
         RosterVariant::WritesBeforeRefusing,
         RosterVariant::KeepsEarlierWords,
@@ -182,8 +194,8 @@ impl RosterVariant {
         }
     }
 
-    /// The rights of a file, where a slip minds that one comes twice.
-    pub(crate) fn twice_slip(self, rights: Vec<Right>) -> Result<Vec<Right>, Fault> {
+    /// The rights of a file, where a slip minds which they are, or that one comes twice.
+    pub(crate) fn rights_slip(self, rights: Vec<Right>) -> Result<Vec<Right>, Fault> {
         let times = |right: &Right| rights.iter().filter(|other| *other == right).count();
         match self {
             RosterVariant::SameRightTwiceIsUnreadable if rights.iter().any(|r| times(r) > 1) => {
@@ -194,14 +206,21 @@ impl RosterVariant {
                 .filter(|right| times(right) % 2 == 1)
                 .copied()
                 .collect()),
+            RosterVariant::GivesNoPartition0 => Ok(rights
+                .into_iter()
+                .filter(|right| right.name != Name::Partition(0))
+                .collect()),
             _ => Ok(rights),
         }
     }
 
     /// Whether a right is printed that the file doesn't give.
     pub(crate) fn prints_anyway(self, right: Right) -> bool {
-        self == RosterVariant::PrintsDefaults
-            && matches!(right.name, Name::Partition(0) | Name::Key(0))
+        match self {
+            RosterVariant::PrintsPartition0 => right.name == Name::Partition(0),
+            RosterVariant::PrintsKey0 => right.name == Name::Key(0),
+            _ => false,
+        }
     }
 
     /// The rights as they are printed; `printed` has them in order, and `rights` as in the file.
@@ -251,6 +270,15 @@ impl RosterVariant {
             RosterVariant::PrintsNamesOnlyWithRights if text == names => String::new(),
             RosterVariant::PrintsNoLastLineFeed => text.trim_end().to_string(),
             _ => text,
+        }
+    }
+
+    /// The word of a roster before any right is put into it.
+    pub(crate) fn first_word(self, place: usize) -> u64 {
+        match self {
+            RosterVariant::AddsPartition0 if place < PARTIES => partition_bit(0),
+            RosterVariant::AddsKey0 if place >= PARTIES => key_bit(0),
+            _ => 0,
         }
     }
 

@@ -56,6 +56,7 @@ impl Variant {
             Variant::LargestHeldIsEnough => partitions.next_back().is_none_or(held),
             Variant::HeldBelow32IsEnough => partitions.filter(|at| *at < 32).all(held),
             Variant::HeldByAnybodyIsEnough => partitions.all(by_some),
+            Variant::Partition0IsHeldInPairs => partitions.filter(|at| *at > 0).all(held),
             Variant::OneOfSeveralIsForgiven => {
                 let lacked = partitions_of(set).filter(|partition| !held(*partition));
                 lacked.count() <= usize::from(partitions.count() > 1)

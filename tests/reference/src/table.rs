@@ -1,6 +1,6 @@
 //! The 1,809 words of a space: what stands where, and when they are sound.
 
-use crate::names::{key_bit, may_be_put, partition_bit, LAST_STORED_KEY, MOST_FIELDS, PARTIES};
+use crate::names::{key_bit, may_be_put, LAST_STORED_KEY, MOST_FIELDS, PARTIES};
 
 /// The length of a space.
 pub const WORDS: usize = 1_809;
@@ -112,7 +112,6 @@ pub fn has_bit_63(word: u64) -> bool {
 pub enum Clause {
     Length,
     LiveCount,
-    DefaultPartition,
     DefaultKey,
     KeyBit63,
     Writer,
@@ -128,10 +127,9 @@ pub enum Clause {
 }
 
 impl Clause {
-    pub const ALL: [Clause; 15] = [
+    pub const ALL: [Clause; 14] = [
         Clause::Length,
         Clause::LiveCount,
-        Clause::DefaultPartition,
         Clause::DefaultKey,
         Clause::KeyBit63,
         Clause::Writer,
@@ -157,9 +155,6 @@ impl Clause {
         match self {
             Clause::Length => space.len() == WORDS,
             Clause::LiveCount => space[LIVE] <= ROWS as u64,
-            Clause::DefaultPartition => space[PARTITIONS..PARTITIONS + PARTIES]
-                .iter()
-                .all(|held| held & partition_bit(0) != 0),
             Clause::DefaultKey => key_words(space).iter().all(|held| held & key_bit(0) != 0),
             Clause::KeyBit63 => key_words(space).iter().all(|held| !has_bit_63(*held)),
             Clause::Writer => live_rows().all(|row| row[WRITER] < PARTIES as u64),

@@ -213,6 +213,27 @@ pub enum Variant {
     TestsNamesBeforeResult,
     /// Tests the party's live entries before names.
     TestsLimitBeforeNames,
+    /// An opening gives partition 0 to everybody.
+    OpensWithPartition0,
+    /// An opening gives it to nobody, not even where the roster lists it.
+    OpensWithoutPartition0,
+    /// An opening gives key 0 only where the roster lists it.
+    OpensWithoutKey0,
+    /// Takes a space for unsound in which somebody lacks partition 0.
+    WantsPartition0,
+    /// The same where it is the party of the call that lacks it.
+    WantsPartition0OfCaller,
+    /// Takes partition 0 in a pair for held, whoever names it.
+    Partition0IsHeldInPairs,
+    /// The same of partition 0 in a field.
+    Partition0IsHeldInFields,
+    /// A receive gives every name that it finds but partition 0.
+    ReceivesNoPartition0,
+    /// The same of a take.
+    TakesNoPartition0,
+    /// The rules as they were while partition 0 was everybody's, by the opening and by soundness:
+    /// what the comparison before and after goes by, and a blunder today.
+    FreePartition0,
     /// Leaves the last live row where it is, and as it was, when the rows close up.
     LeavesLastRow,
     /// Closes up to the start of the last live row and clears it, so that its entry is lost.
@@ -339,6 +360,21 @@ impl Variant {
         Variant::OneOfSeveralIsForgiven,
         Variant::TestsNamesBeforeResult,
         Variant::TestsLimitBeforeNames,
+    ];
+
+    /// Slips about partition 0 and key 0. The one that takes a space without key 0 for sound is a
+    /// skipped clause.
+    pub const DEFAULT_SLIPS: [Variant; 10] = [
+        Variant::OpensWithPartition0,
+        Variant::OpensWithoutPartition0,
+        Variant::OpensWithoutKey0,
+        Variant::WantsPartition0,
+        Variant::WantsPartition0OfCaller,
+        Variant::Partition0IsHeldInPairs,
+        Variant::Partition0IsHeldInFields,
+        Variant::ReceivesNoPartition0,
+        Variant::TakesNoPartition0,
+        Variant::FreePartition0,
     ];
 
     /// Slips about where rows start and end, in the first row, one in the middle and the last.

@@ -1,5 +1,5 @@
 //! The rules' twelve cases, looks, the small examples of their table of refusals, names that aren't
-//! held, the bounds, and sets of partitions.
+//! held, partition 0 and key 0, the bounds, and sets of partitions.
 
 use reference::names::{key_bit, partition_bit, partitions_of, set_of, stored_key};
 use reference::table::{
@@ -22,16 +22,28 @@ const LOW_KEY: Pair = Pair { set: 1, key: -32 };
 const ELSEWHERE: Pair = Pair { set: 512, key: -4 };
 const PARTITION_9: u64 = 4_294_967_305;
 
+fn opened(roster: &[u64]) -> Vec<u64> {
+    let mut space = vec![u64::MAX; WORDS];
+    assert_eq!(Reference::correct().open(&mut space, roster), Answer::Done);
+    space
+}
+
 /// The opening of the cases: party 0 holds 5 and 4, party 1 holds 5 and -4.
 fn opening() -> Vec<u64> {
+    opening_with_0(&[])
+}
+
+/// The same with partition 0 in the roster for these parties.
+fn opening_with_0(parties: &[usize]) -> Vec<u64> {
     let mut roster = [0; 16];
     roster[0] = partition_bit(5);
     roster[1] = partition_bit(5);
     roster[8] = key_bit(4);
     roster[9] = key_bit(-4);
-    let mut space = vec![u64::MAX; WORDS];
-    assert_eq!(Reference::correct().open(&mut space, &roster), Answer::Done);
-    space
+    for party in parties {
+        roster[*party] |= partition_bit(0);
+    }
+    opened(&roster)
 }
 
 fn put(space: &mut [u64], party: u32, pair: Pair, fields: &[u64]) -> Answer {
@@ -121,7 +133,7 @@ fn case_j_limit() {
 /// By the layout: the first row at word 17, each row 14 words, 128 of them up to word 1,808.
 #[test]
 fn rows_stand_where_the_layout_says() {
-    let mut space = opening();
+    let mut space = opening_with_0(&[0, 1, 2, 3, 4, 5, 6, 7]);
     for number in 0..128 {
         let party = (number / 16) as u32;
         assert_eq!(put(&mut space, party, DEFAULT, &[number; 8]), Answer::Done);
@@ -141,7 +153,7 @@ fn rows_stand_where_the_layout_says() {
 
 #[test]
 fn case_k_names_travel() {
-    let mut space = opening();
+    let mut space = opening_with_0(&[0, 2]);
     let names = [Field::Partition(5).word(), Field::Key(4).word()];
     assert_eq!(put(&mut space, 0, DEFAULT, &names), Answer::Done);
     let (answer, _) = receive(&mut space, 2, DEFAULT, &[WILDCARD, WILDCARD]);
@@ -152,7 +164,7 @@ fn case_k_names_travel() {
 
 #[test]
 fn look_gives_no_name() {
-    let mut space = opening();
+    let mut space = opening_with_0(&[0, 2]);
     let names = [Field::Partition(5).word(), Field::Key(4).word()];
     assert_eq!(put(&mut space, 0, DEFAULT, &names), Answer::Done);
     let all = [WILDCARD, WILDCARD];
@@ -188,7 +200,7 @@ fn look_finds_the_oldest_until_it_is_taken() {
 
 #[test]
 fn look_and_receive_go_by_the_read_pair() {
-    let mut space = opening();
+    let mut space = opening_with_0(&[0, 1]);
     let done = Reference::correct().put(&mut space, 0, HERE, DEFAULT, &[1]);
     assert_eq!(done, Answer::Done);
     for find in [look, receive] {
@@ -321,6 +333,276 @@ fn what_the_slips_make_of_names() {
     }
 }
 
+/// Of words 0 to 16, which have no name but key 0: the bit of key 0 is bit 31.
+const OPENED_BY_ZEROS: [u64; 17] = {
+    let mut words = [0; 17];
+    let mut word = 9;
+    while word < 17 {
+        words[word] = 2_147_483_648;
+        word += 1;
+    }
+    words
+};
+
+#[test]
+fn a_roster_of_zeros_gives_key_0_and_no_partition() {
+    let space = opened(&[0; 16]);
+    assert_eq!(space[..17], OPENED_BY_ZEROS);
+    assert!(space[17..].iter().all(|word| *word == 0));
+    assert_eq!(broken_clause(&space), None);
+}
+
+#[test]
+fn a_roster_gives_partition_0_as_any_other() {
+    let mut roster = [0; 16];
+    roster[3] = 1;
+    roster[4] = 33;
+    roster[7] = u64::MAX;
+    // Key 0 listed is the same as not listed.
+    roster[10] = 1 << 31;
+    let space = opened(&roster);
+    let mut due = OPENED_BY_ZEROS;
+    (due[4], due[5], due[8]) = (1, 33, u64::MAX);
+    assert_eq!(space[..17], due);
+}
+
+const ALL: [Operation; 3] = [Operation::Look, Operation::Receive, Operation::Take];
+/// Partitions 0 and 5, of which party 0 of the cases holds only the latter.
+const WITH_0: Pair = Pair { set: 33, key: 4 };
+const UNDER_0: Pair = Pair { set: 1, key: 4 };
+const PARTITION_0: u64 = 4_294_967_296;
+
+/// By party 0 of the cases: under {0}, under {0, 5} in either pair, and with `p0` in a field.
+#[test]
+fn calls_without_partition_0() {
+    let mut space = opening();
+    let before = space.clone();
+    let mut reference = Reference::correct();
+    for pair in [UNDER_0, WITH_0] {
+        for (read, take) in [(pair, pair), (pair, HERE), (HERE, pair)] {
+            let answer = reference.put(&mut space, 0, read, take, &[1]);
+            assert_eq!(answer, Answer::Refused(13), "{read:?}, {take:?}");
+        }
+        for operation in ALL {
+            let found = find(operation, &mut space, 0, pair, &[1]);
+            assert_eq!(found, (Answer::Refused(13), [99; 8]), "{operation:?}");
+        }
+    }
+    let carried = [PARTITION_0];
+    assert_eq!(put(&mut space, 0, HERE, &carried), Answer::Refused(7));
+    for operation in ALL {
+        let found = find(operation, &mut space, 0, HERE, &carried);
+        assert_eq!(found, (Answer::Refused(7), [99; 8]), "{operation:?}");
+    }
+    assert_eq!(space, before);
+}
+
+#[test]
+fn calls_with_partition_0() {
+    let mut space = opening_with_0(&[0]);
+    let fields = [PARTITION_0, 1];
+    for pair in [DEFAULT, UNDER_0, WITH_0] {
+        assert_eq!(put(&mut space, 0, pair, &fields), Answer::Done, "{pair:?}");
+        for operation in ALL {
+            let (answer, _) = find(operation, &mut space, 0, pair, &fields);
+            let due = match co_key(pair.key) == pair.key {
+                true => Answer::Found(2),
+                false => Answer::None,
+            };
+            assert_eq!(answer, due, "{operation:?}, {pair:?}");
+        }
+    }
+}
+
+/// Party 0 hands partition 0 to party 1, which has no line for it.
+#[test]
+fn partition_0_travels() {
+    for (operation, gained) in ALL.into_iter().zip([false, true, true]) {
+        let mut space = opening_with_0(&[0]);
+        let before = space[PARTITIONS + 1];
+        assert_eq!(put(&mut space, 0, HERE, &[PARTITION_0]), Answer::Done);
+        assert_eq!(put(&mut space, 1, DEFAULT, &[1]), Answer::Refused(13));
+        let (answer, _) = find(operation, &mut space, 1, THERE, &[WILDCARD]);
+        assert_eq!(answer, Answer::Found(1));
+        let (word, due) = match gained {
+            true => (before + 1, Answer::Done),
+            false => (before, Answer::Refused(13)),
+        };
+        assert_eq!(space[PARTITIONS + 1], word, "{operation:?}");
+        assert_eq!(put(&mut space, 1, DEFAULT, &[1]), due, "{operation:?}");
+    }
+}
+
+#[test]
+fn a_space_without_partition_0_is_sound() {
+    for lacking in 0..256_usize {
+        let mut space = opening_with_0(&[0, 1, 2, 3, 4, 5, 6, 7]);
+        for party in (0..8).filter(|party| lacking >> party & 1 == 1) {
+            space[PARTITIONS + party] &= !1;
+        }
+        assert_eq!(broken_clause(&space), None);
+        assert_eq!(put(&mut space, 0, HERE, &[1]), Answer::Done);
+        assert_eq!(look(&mut space, 1, THERE, &[1]).0, Answer::Found(1));
+        assert_eq!(take(&mut space, 1, THERE, &[1]).0, Answer::Found(1));
+    }
+}
+
+#[test]
+fn a_space_without_key_0_is_unsound() {
+    for party in 0..8 {
+        for mut space in [opening(), opening_with_0(&[0, 1, 2, 3, 4, 5, 6, 7])] {
+            space[KEYS + party] &= !(1 << 31);
+            assert_eq!(broken_clause(&space), Some(Clause::DefaultKey));
+            assert_eq!(put(&mut space, 0, HERE, &[1]), Answer::Refused(1));
+            for operation in ALL {
+                let found = find(operation, &mut space, 1, THERE, &[1]);
+                assert_eq!(found, (Answer::Refused(1), [99; 8]));
+            }
+        }
+    }
+}
+
+/// What a slip makes of an opening: words 1 and 9, without and with partition 0 in the roster.
+#[test]
+fn what_the_slips_make_of_an_opening() {
+    let key_0 = 1 << 31;
+    for (variant, without, with) in [
+        (Variant::Correct, (32, key_0), (33, key_0)),
+        (Variant::OpensWithPartition0, (33, key_0), (33, key_0)),
+        (Variant::FreePartition0, (33, key_0), (33, key_0)),
+        (Variant::OpensWithoutPartition0, (32, key_0), (32, key_0)),
+        (Variant::OpensWithoutKey0, (32, 0), (33, 0)),
+        (Variant::WantsPartition0, (32, key_0), (33, key_0)),
+    ] {
+        for (listed, due) in [(32, without), (33, with)] {
+            let mut space = vec![0; WORDS];
+            let mut roster = [0; 16];
+            roster[0] = listed;
+            Reference::with(variant).open(&mut space, &roster);
+            assert_eq!((space[1], space[9]), due, "{variant:?}, {listed}");
+        }
+    }
+}
+
+/// What a slip answers to a put of party 0, of this pair and this field, where party 0, or only
+/// another one, lacks partition 0.
+#[test]
+fn what_the_slips_make_of_partition_0() {
+    let (here, nowhere) = (vec![1, 2, 3, 4, 5, 6, 7], vec![]);
+    let elsewhere = vec![0, 1, 2, 4, 5, 6, 7];
+    let refused = Answer::Refused;
+    for (variant, holders, pair, field, due, wrong) in [
+        (
+            Variant::WantsPartition0,
+            &here,
+            HERE,
+            1,
+            Answer::Done,
+            refused(1),
+        ),
+        (
+            Variant::WantsPartition0,
+            &elsewhere,
+            HERE,
+            1,
+            Answer::Done,
+            refused(1),
+        ),
+        (
+            Variant::FreePartition0,
+            &elsewhere,
+            HERE,
+            1,
+            Answer::Done,
+            refused(1),
+        ),
+        (
+            Variant::WantsPartition0OfCaller,
+            &here,
+            HERE,
+            1,
+            Answer::Done,
+            refused(1),
+        ),
+        (
+            Variant::WantsPartition0OfCaller,
+            &elsewhere,
+            HERE,
+            1,
+            Answer::Done,
+            Answer::Done,
+        ),
+        (
+            Variant::Partition0IsHeldInPairs,
+            &nowhere,
+            DEFAULT,
+            1,
+            refused(13),
+            Answer::Done,
+        ),
+        (
+            Variant::Partition0IsHeldInPairs,
+            &nowhere,
+            WITH_0,
+            1,
+            refused(13),
+            Answer::Done,
+        ),
+        (
+            Variant::Partition0IsHeldInPairs,
+            &nowhere,
+            HERE,
+            PARTITION_0,
+            refused(7),
+            refused(7),
+        ),
+        (
+            Variant::Partition0IsHeldInFields,
+            &nowhere,
+            HERE,
+            PARTITION_0,
+            refused(7),
+            Answer::Done,
+        ),
+        (
+            Variant::Partition0IsHeldInFields,
+            &nowhere,
+            DEFAULT,
+            1,
+            refused(13),
+            refused(13),
+        ),
+    ] {
+        let space = opening_with_0(holders);
+        for (variant, answer) in [(Variant::Correct, due), (variant, wrong)] {
+            let put = Reference::with(variant).put(&mut space.clone(), 0, pair, pair, &[field]);
+            assert_eq!(put, answer, "{variant:?}, {holders:?}, {pair:?}, {field}");
+        }
+    }
+}
+
+/// What a receive and a take of `p0` leave in the word of party 1, which had 5.
+#[test]
+fn what_the_slips_make_of_a_carried_partition_0() {
+    for (variant, received, taken) in [
+        (Variant::Correct, 33, 33),
+        (Variant::ReceivesNoPartition0, 32, 33),
+        (Variant::TakesNoPartition0, 33, 32),
+    ] {
+        for (operation, due) in [(Operation::Receive, received), (Operation::Take, taken)] {
+            let mut space = opening_with_0(&[0]);
+            assert_eq!(put(&mut space, 0, HERE, &[PARTITION_0]), Answer::Done);
+            let query = Query {
+                party: 1,
+                pair: THERE,
+                fields: &[WILDCARD],
+            };
+            Reference::with(variant).find(operation, &mut space, query, &mut [0; 8]);
+            assert_eq!(space[PARTITIONS + 1], due, "{variant:?}, {operation:?}");
+        }
+    }
+}
+
 #[test]
 fn case_l_party_before_fields() {
     assert_eq!(put(&mut opening(), 8, DEFAULT, &[]), Answer::Refused(2));
@@ -359,7 +641,7 @@ fn examples_of_the_refusals() {
 
 /// What a look by these words, and so a receive, answers with one entry of these fields there.
 fn look_for_one(entry: &[u64], template: &[u64]) -> Answer {
-    let mut space = opening();
+    let mut space = opening_with_0(&[0, 1]);
     assert_eq!(put(&mut space, 0, DEFAULT, entry), Answer::Done);
     let (answer, result) = look(&mut space, 1, DEFAULT, template);
     if let Answer::Found(count) = answer {
@@ -458,7 +740,7 @@ fn bounds_find_the_oldest_in_range() {
 
 #[test]
 fn bounds_carry_no_name() {
-    let mut space = opening();
+    let mut space = opening_with_0(&[0, 2]);
     let before = space.clone();
     // Party 2 holds neither partition 5 nor key 4, which is stored as 35.
     for bound in [AT_LEAST + 5, AT_MOST + 5, AT_LEAST + 35, AT_MOST + 35] {
@@ -493,7 +775,7 @@ fn bounds_in_puts_and_kinds_above() {
 #[test]
 fn row_with_a_bound_is_unsound() {
     for bound in [AT_LEAST, AT_MOST + 7, AT_MOST + LAST_MESSAGE, KIND_6] {
-        let mut space = opening();
+        let mut space = opening_with_0(&[0]);
         assert_eq!(put(&mut space, 0, DEFAULT, &[1, 2]), Answer::Done);
         assert_eq!(broken_clause(&space), None);
         space[row_start(0) + FIELDS + 1] = bound;
@@ -516,17 +798,15 @@ fn words_of_sets() {
     }
 }
 
-/// An opening in which parties 0 and 1 hold every partition and key, party 2 holds 5 and 9, and
+/// An opening in which parties 0 and 1 hold every partition and key, party 2 holds 0, 5 and 9, and
 /// party 3 all but 9.
 fn opening_for_sets() -> Vec<u64> {
     let mut roster = [0; 16];
     roster[..2].fill(u64::MAX);
-    roster[2] = 544;
+    roster[2] = 545;
     roster[3] = u64::MAX - 512;
     roster[8..10].fill(u64::MAX >> 1);
-    let mut space = vec![0; WORDS];
-    assert_eq!(Reference::correct().open(&mut space, &roster), Answer::Done);
-    space
+    opened(&roster)
 }
 
 fn with_set(set: u64) -> Pair {
@@ -638,7 +918,7 @@ fn row_with_an_empty_set_is_unsound() {
 #[test]
 fn single_partitions() {
     let mut by_numbers = Reference::with(Variant::SinglePartitions);
-    let mut space = opening();
+    let mut space = opening_with_0(&[1]);
     let pair = |set, key| Pair { set, key };
     let done = by_numbers.put(&mut space, 0, pair(5, 4), pair(5, 4), &[7, 120]);
     assert_eq!(done, Answer::Done);

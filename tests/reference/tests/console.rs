@@ -39,7 +39,7 @@ fn inputs_without_calls() {
 #[test]
 fn length_of_the_input() {
     let line = "put 0 0 0 0 0 m1\n";
-    let mut input = NAMES.to_string();
+    let mut input = format!("{NAMES}give 0 0 - - - -\n");
     while input.len() + 2 * line.len() <= 65_536 {
         input.push_str(line);
     }
@@ -64,6 +64,7 @@ fn fields_of_length(length: usize) -> String {
     fields
 }
 
+/// By party 0, which is given partition 0.
 #[test]
 fn readable_and_refused() {
     for (line, answer) in [
@@ -120,10 +121,78 @@ fn readable_and_refused() {
         ("receive 0 0 0 - - g0,g0,g0,g0,g0,l0,l0,l0,l0", "no3"),
     ] {
         assert_eq!(
-            after_names(&format!("{line}\n")),
+            after_names(&format!("give 0 0 - - - -\n{line}\n")),
             format!("1 {answer} -\n"),
             "{line}"
         );
+    }
+}
+
+/// Calls that use partition 0: their answers where no line has given it to party 0, which is given
+/// 5, and where one has.
+#[test]
+fn partition_0_is_given_by_a_line() {
+    for (line, without, with) in [
+        ("put 0 0 0 0 0 m1", "no13", "done"),
+        ("put 0 5 0 0 0 m1", "no13", "done"),
+        ("put 0 0 0 5 0 m1", "no13", "done"),
+        ("put 0 0:5 0 5 0 m1", "no13", "done"),
+        ("put 0 5 0 5 0 p0", "no7", "done"),
+        ("put 0 5 0 5 0 m1", "done", "done"),
+        ("put 0 5 0 5 0 k0", "done", "done"),
+        ("look 0 0 0 - - *", "no13", "none"),
+        ("receive 0 0:5 0 - - *", "no13", "none"),
+        ("take 0 0 0 - - *", "no13", "none"),
+        ("take 0 0 -4 - - p0", "no13", "no14"),
+        ("look 0 5 0 - - p0", "no7", "none"),
+        ("receive 0 5 0 - - *", "none", "none"),
+    ] {
+        let nobodys = "give 0 5 - - - -\n";
+        let anothers = "give 0 5 - - - -\ngive 1 0 - - - -\n";
+        let with_key = "give 0 5 0 - - -\n";
+        let own = "give 0 5 - - - -\ngive 0 0 - - - -\n";
+        for (gifts, answer) in [
+            (nobodys, without),
+            (anothers, without),
+            (with_key, without),
+            (own, with),
+        ] {
+            let output = after_names(&format!("{gifts}{line}\n"));
+            assert_eq!(output, format!("1 {answer} -\n"), "{gifts}{line}");
+        }
+    }
+}
+
+#[test]
+fn what_the_slips_make_of_gifts_of_partition_0() {
+    let call = "put 0 0 0 0 0 m1\n";
+    let given = format!("{NAMES}give 0 0 - - - -\n{call}");
+    let not_given = format!("{NAMES}{call}");
+    for (variant, lines, right, wrong) in [
+        (
+            ConsoleVariant::GivesPartition0ToAll,
+            &not_given,
+            "1 no13 -",
+            "1 done -",
+        ),
+        (
+            ConsoleVariant::GivesNoPartition0,
+            &given,
+            "1 done -",
+            "1 no13 -",
+        ),
+        (
+            ConsoleVariant::GiftOf0IsUnreadable,
+            &given,
+            "1 done -",
+            "line 2 unreadable",
+        ),
+    ] {
+        for (variant, said) in [(ConsoleVariant::Correct, right), (variant, wrong)] {
+            let due = format!("line answer fields\n{said}\n");
+            let output = console_with(variant, lines.as_bytes());
+            assert_eq!(output, due.as_bytes(), "{variant:?}");
+        }
     }
 }
 
@@ -228,8 +297,8 @@ fn calls_before_an_unreadable_line_are_printed() {
     let lines = "give 0 5 - - - -\nput 0 5 0 5 0 m1\ngive 0 6 - - - -\nput 0 5 0 5 0 m1\n";
     assert_eq!(after_names(lines), "1 done -\nline 4 unreadable\n");
     for line in ["look 0 0 0 - - m1", "read 0 0 0 - - m1\n"] {
-        let lines = format!("put 0 0 0 0 0 m1\n{line}");
-        assert_eq!(after_names(&lines), "1 done -\nline 3 unreadable\n");
+        let lines = format!("give 0 0 - - - -\nput 0 0 0 0 0 m1\n{line}");
+        assert_eq!(after_names(&lines), "1 done -\nline 4 unreadable\n");
     }
 }
 
@@ -237,6 +306,9 @@ fn calls_before_an_unreadable_line_are_printed() {
 fn names_travel_and_are_printed_as_keys() {
     let lines = "\
 give 0 5 4 - - -
+give 0 0 - - - -
+give 2 0 - - - -
+give 3 0 - - - -
 put 0 0 0 0 0 p5,k4
 look 2 0 0 - - *,*
 put 2 5 4 5 4 m1
@@ -267,7 +339,7 @@ fn what_is_found_by_each_word() {
     let looks = "1 done -\n2 found p5\n3 no13 -\n4 found p5\n";
     let receives = "1 done -\n2 found p5\n3 done -\n4 found p5\n";
     let takes = "1 done -\n2 found p5\n3 done -\n4 none -\n";
-    let unreadable = "1 done -\nline 4 unreadable\n";
+    let unreadable = "1 done -\nline 6 unreadable\n";
     for (word, due, variant, wrong) in [
         ("look", looks, ConsoleVariant::LookReceives, receives),
         ("look", looks, ConsoleVariant::LookIsUnreadable, unreadable),
@@ -276,7 +348,7 @@ fn what_is_found_by_each_word() {
         ("read", unreadable, ConsoleVariant::ReadIsReadable, receives),
     ] {
         let lines = format!(
-            "give 0 5 - - - -\nput 0 0 0 0 0 p5\n\
+            "give 0 5 - - - -\ngive 0 0 - - - -\ngive 1 0 - - - -\nput 0 0 0 0 0 p5\n\
              {word} 1 0 0 - - *\nput 1 5 0 5 0 m1\ntake 1 0 0 - - *\n"
         );
         assert_eq!(after_names(&lines), due, "{word}");
@@ -289,6 +361,8 @@ fn what_is_found_by_each_word() {
 #[test]
 fn bounds_pick_by_their_number() {
     let lines = "\
+give 0 0 - - - -
+give 1 0 - - - -
 put 0 0 0 0 0 m7,m100
 put 0 0 0 0 0 m7,m4294967295
 put 0 0 0 0 0 m7,p0
@@ -404,7 +478,9 @@ give 0 5 - - - -
 give 0 9 - - - -
 give 0 63 - - - -
 give 1 9 - - - -
+give 1 0 - - - -
 give 2 5 - - - -
+give 2 0 - - - -
 put 0 5:9 0 9:63 0 m1
 look 1 9 0 - - m1
 look 1 0:9 0 - - m1
@@ -432,7 +508,7 @@ take 1 9 0 - - m1
 /// What each slip about sets makes of one line: nothing is printed for a gift.
 #[test]
 fn what_the_slips_make_of_sets() {
-    let gifts = "give 0 5 - - - -\ngive 0 9 - - - -\ngive 0 63 - - - -\n";
+    let gifts = "give 0 0 - - - -\ngive 0 5 - - - -\ngive 0 9 - - - -\ngive 0 63 - - - -\n";
     let seventeen = "0:1:2:3:4:5:6:7:8:9:10:11:12:13:14:15:16";
     for (variant, set, right, wrong) in [
         (ConsoleVariant::ReadsTwice, "5:5", "", "done"),
@@ -469,14 +545,14 @@ fn what_the_slips_make_of_sets() {
         for (variant, answer) in [(ConsoleVariant::Correct, right), (variant, wrong)] {
             let output = console_with(variant, lines.as_bytes());
             let said = match answer {
-                "" => "line 5 unreadable".to_string(),
+                "" => "line 6 unreadable".to_string(),
                 answer => format!("1 {answer} -"),
             };
             let due = format!("line answer fields\n{said}\n");
             assert_eq!(output, due.as_bytes(), "{variant:?}, {set}");
         }
     }
-    let lines = format!("{NAMES}give 0 5:9 - - - -\nput 0 5:9 0 0 0 m1\n");
+    let lines = format!("{NAMES}give 0 0:5:9 - - - -\nput 0 5:9 0 0 0 m1\n");
     let output = console_with(ConsoleVariant::GivesSets, lines.as_bytes());
     assert_eq!(output, b"line answer fields\n1 done -\n");
 }

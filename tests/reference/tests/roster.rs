@@ -342,8 +342,43 @@ fn blunders_are_what_they_say() {
             "0 k 1\n0 k 2\n0 p 1\n0 p 2\n",
             "party kind name\n0 p 1\n0 p 2\n0 k 2\n0 k 1\n",
         ),
+        (
+            RosterVariant::GivesNoPartition0,
+            "0 p 0\n0 p 5\n0 k 0\n",
+            "party kind name\n0 p 5\n0 k 0\n",
+        ),
     ] {
         assert_eq!(printed(variant, text), expected, "{variant:?}");
         assert_ne!(after_names(text), expected, "{variant:?}");
+    }
+    for (variant, name) in [
+        (RosterVariant::PrintsPartition0, "p 0"),
+        (RosterVariant::PrintsKey0, "k 0"),
+    ] {
+        let lines: String = (0..8).map(|party| format!("{party} {name}\n")).collect();
+        assert_eq!(printed(variant, ""), format!("{NAMES}{lines}"));
+    }
+}
+
+/// The defaults are read as any other name: only lines give them, and what they give is printed.
+#[test]
+fn defaults_come_from_lines_alone() {
+    let lines = "2 p 0\n2 p 5\n3 k 0\n6 p 0\n6 k 0\n";
+    assert_eq!(after_names(lines), format!("{NAMES}{lines}"));
+    let mut expected = [0; 16];
+    (expected[2], expected[6]) = (33, 1);
+    (expected[11], expected[14]) = (1 << 31, 1 << 31);
+    assert_eq!(words(lines), expected);
+    for (variant, first, last) in [
+        (RosterVariant::AddsPartition0, 1, 0),
+        (RosterVariant::AddsKey0, 0, 1 << 31),
+    ] {
+        let mut wrong = BEFORE;
+        assert_eq!(
+            RosterReader::with(variant).call(NAMES.as_bytes(), &mut wrong),
+            0
+        );
+        assert_eq!(wrong[..8], [first; 8], "{variant:?}");
+        assert_eq!(wrong[8..], [last; 8], "{variant:?}");
     }
 }
