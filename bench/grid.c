@@ -1,6 +1,6 @@
 /* Many small workloads, each one call, for bench/compare: every count of live entries, every length and form of template, wherever the
-   match is, each refusal, wherever a name stands that isn't held, and sets of several partitions. Prints or dumps a line for each: its
-   name, what the call answers, and its instructions. Compiled with the header of the library that is counted.
+   match is, each refusal, wherever a name stands that isn't held, sets of several partitions, and openings. Prints or dumps a line for
+   each: its name, what the call answers, and its instructions. Compiled with the header of the library that is counted.
 
    On a board, under `-icount shift=10`, an instruction takes 1,024 ns of the emulated clock and a tick of SysTick 40, so that the
    ticks of a single call give its instructions exactly. On the desk callgrind dumps its count under the workload's name. */
@@ -35,8 +35,8 @@ typedef uint64_t pair_set;
 #define OUT_OF_RANGE 0
 #endif
 
-static uint64_t space[WORDS], kept[WORDS], result[8], fields[8];
-static struct { enum { LOOK, RECEIVE, TAKE, PUT, NOTHING } kind; uint32_t party, count, room; pair_set set, take_set; int32_t key, take_key; } call;
+static uint64_t space[WORDS], kept[WORDS], roster[16], result[8], fields[8];
+static struct { enum { LOOK, RECEIVE, TAKE, PUT, OPEN, NOTHING } kind; uint32_t party, count, room; pair_set set, take_set; int32_t key, take_key; } call;
 static volatile uint32_t answer;
 
 /* Called by their addresses, so that the way to a call is as long in every library. (The cast: to a look the space is const.) */
@@ -47,6 +47,7 @@ APART void measured(void)
 {
     if (call.kind <= TAKE) answer = seeks[call.kind](space, WORDS, call.party, call.set, call.key, fields, call.count, result, call.room);
     else if (call.kind == PUT) answer = space_put(space, WORDS, call.party, call.set, call.key, call.take_set, call.take_key, fields, call.count);
+    else if (call.kind == OPEN) answer = space_open(space, WORDS, roster, call.count);
 }
 
 /* Field i of the entry in row r: messages, of which only the last differs from row to row; with names the first two are a partition
@@ -59,12 +60,13 @@ static uint64_t field(uint32_t r, uint32_t i, uint32_t n, int names)
     return i + 1;
 }
 
-/* Everybody holds partitions 0 to 7 and 50 and keys -31 to -24 and 0; party p writes 16 rows, under the defaults. */
+/* Everybody holds partitions 0 to 7 and 50 and keys -31 to -24 and 0, all by the roster; party p writes 16 rows, under the defaults. */
 static void prepare(uint32_t live, uint32_t n, int names)
 {
     memset(kept, 0, sizeof kept);
     kept[0] = live;
-    for (uint32_t p = 0; p < 8; p++) kept[1 + p] = 255 | 1ull << 50, kept[9 + p] = 255 | 1ull << 31;
+    for (uint32_t p = 0; p < 8; p++) roster[p] = 255 | 1ull << 50, roster[8 + p] = 255 | 1ull << 31;
+    memcpy(kept + 1, roster, sizeof roster);
     for (uint32_t r = 0; r < live; r++) {
         uint64_t row[ROW] = {r / 16, ONE(0), 31, ONE(0), 31, n};
         for (uint32_t i = 0; i < n; i++) row[6 + i] = field(r, i, n, names);
@@ -220,10 +222,25 @@ static void puts_(uint32_t live, uint32_t n)
 #endif
 }
 
+static void opened(uint32_t live, const char *what)
+{
+    snprintf(name, sizeof name, "open, %u live, %s", (unsigned)live, what);
+    count();
+}
+
+static void opens(uint32_t live)
+{
+    prepare(live, 8, 0);
+    call.kind = OPEN, call.count = 16, opened(live, "all is given");
+    roster[15] |= 1ull << 63, opened(live, "bit 63 in the last word");
+    call.count = 15, opened(live, "15 words");
+}
+
 int main(void)
 {
     static const uint32_t lives[] = {0, 1, 3, 16, 127, 128}, counts[] = {1, 2, 3, 4, 5, 8};
     call.kind = NOTHING, count();
+    for (uint32_t l = 0; l < 6; l++) opens(lives[l]);
     for (uint32_t kind = LOOK; kind <= PUT; kind++)
         for (uint32_t l = 0; l < 6; l++)
             for (uint32_t c = 0; c < 6; c++) {

@@ -177,6 +177,11 @@ INLINE void copy(uint64_t *restrict to, const uint64_t *restrict from, uint32_t 
     }
 }
 #endif
+#ifdef __SSE2__
+#define COPY_EIGHT(to, from) memcpy(to, from, 8 * sizeof *(to)) /* by vectors */
+#else
+#define COPY_EIGHT(to, from) copy(to, from, 8)
+#endif
 
 /* A template, made ready field by field: start, then literal or wildcard for each, then finish. To matches() a bound is a
    wildcard. */
@@ -257,11 +262,10 @@ INLINE int matches(const struct template *t, const uint64_t *row, int at)
 
 INLINE int sound_field(uint64_t w) { return high(w) == 0 || (high(w) <= 2 && low(w) <= 64 - high(w)); }
 
+/* Every party holds key 0, and no bit 63 is set among the keys. Of the partitions nothing is asked. */
 NOINLINE int sound_roster(const uint64_t *s)
 {
-    uint32_t ones = low(s[1]) & low(s[2]) & low(s[3]) & low(s[4]) & low(s[5]) & low(s[6]) & low(s[7]) & low(s[8]);
     uint32_t keys = low(s[9]), tops = high(s[9]);
-    HERE(ones);
 #pragma GCC unroll 7
     for (int i = 10; i < FIRST; i++) {
         keys &= low(s[i]);
@@ -269,7 +273,7 @@ NOINLINE int sound_roster(const uint64_t *s)
         HERE(keys);
         HERE(tops);
     }
-    return (ones & 1) && (keys & ~tops) >> 31;
+    return (keys & ~tops) >> 31;
 }
 
 /* Of a row where `highs` isn't 0: is it because of rights among its fields? Its lower halves but those are tested already. */
@@ -439,11 +443,9 @@ uint32_t plain_open(uint64_t *restrict s, uint64_t len, const uint64_t *restrict
     for (int i = 8; i < 16; i++) tops |= roster[i];
     if (tops >> 63) return 109;
     s[0] = 0;
+    COPY_EIGHT(s + 1, roster);
 #pragma GCC unroll 8
-    for (int i = 0; i < 8; i++) {
-        s[1 + i] = roster[i] | 1;
-        s[9 + i] = roster[8 + i] | 1ull << 31;
-    }
+    for (int i = 8; i < 16; i++) s[1 + i] = roster[i] | 1ull << 31;
     clean(s + FIRST, ROWS);
     return 0;
 }

@@ -60,7 +60,7 @@ static uint32_t picker_a_door(struct request *r) { return serve(PICKER_A, r); }
 static uint32_t picker_b_door(struct request *r) { return serve(PICKER_B, r); }
 static uint32_t telemetry_door(struct request *r) { return serve(TELEMETRY, r); }
 
-/* The plan above. Nobody holds what isn't in it, but for partition 0 and key 0, which are everybody's. */
+/* The plan above. Nobody holds what isn't in it, but for key 0, which is everybody's. */
 static const struct gift {
     uint32_t party, partition;
     int32_t key;

@@ -1,5 +1,6 @@
 /* The five calls of the rules' example, made from C: a program includes the header and links the archive. Then the same with a set
-   of two partitions, and sets that are refused. Last a look, which gives no names; that prints nothing, the status tells it. */
+   of two partitions, sets that are refused, and the default partition. Last a look, which gives no names; that prints nothing, the
+   status tells it. */
 #include "space.h"
 #include <stdio.h>
 
@@ -39,12 +40,13 @@ int main(void)
     const uint64_t five = space_set(5), nine = space_set(9), both = space_join(five, nine), empty = space_set(64);
     uint64_t roster[SPACE_ROSTER_WORDS] = {0}, result[SPACE_MOST_FIELDS];
 
-    /* party 0 holds partitions 5 and 9 and key 4, party 1 partition 5 and key -4, party 2 partition 9 and key -4 */
+    /* party 0 holds partitions 5 and 9 and key 4, party 1 partition 5 and key -4, party 2 partitions 0 and 9 and key -4 */
     space_give_partition(roster, 0, 5);
     space_give_partition(roster, 0, 9);
     space_give_key(roster, 0, 4);
     space_give_partition(roster, 1, 5);
     space_give_key(roster, 1, -4);
+    space_give_partition(roster, 2, 0);
     space_give_partition(roster, 2, 9);
     space_give_key(roster, 2, -4);
 
@@ -67,5 +69,11 @@ int main(void)
     show(12, space_put(space, SPACE_WORDS, 0, five, 4, empty, 4, entry, 2), 1, result);
     show(13, space_put(space, SPACE_WORDS, 0, space_join(five, empty), 4, five, 4, entry, 2), 1, result);
     show(14, space_look(space, SPACE_WORDS, 2, empty, -4, any, 2, result, SPACE_MOST_FIELDS), 0, result);
+
+    /* key 0 is everybody's, and partition 0 is not: party 1 isn't given it */
+    show(15, space_put(space, SPACE_WORDS, 2, space_set(0), 0, space_set(0), 0, entry, 2), 1, result);
+    show(16, space_look(space, SPACE_WORDS, 1, space_set(0), 0, any, 2, result, SPACE_MOST_FIELDS), 0, result);
+    show(17, space_look(space, SPACE_WORDS, 1, five, 0, any, 2, result, SPACE_MOST_FIELDS), 0, result);
+    show(18, space_take(space, SPACE_WORDS, 2, space_set(0), 0, any, 2, result, SPACE_MOST_FIELDS), 0, result);
     return !a_look_gives_no_names();
 }

@@ -15,13 +15,14 @@ struct call {
     uint64_t list[18]; /* the roster, or the fields */
 };
 
-/* what is given to each party: all of the few partitions and keys that the calls name, but for parties 5 to 7, which lack some */
+/* what is given to each party: all of the few partitions and keys that the calls name, but for parties 4 to 7, which lack some; 4 and 5
+   lack partition 0, and 6 and 7 get key 0 by the opening alone */
 static const uint8_t usual_partitions[4] = {0, 5, 40, 63};
 #define ALL_USUAL (1ull | 1ull << 5 | 1ull << 40 | 1ull << 63)
 #define KEYS_3_TO_2 (63ull << 28) /* keys -3 to 2 */
-static const uint64_t usual_roster[ROSTER] = {ALL_USUAL, ALL_USUAL, ALL_USUAL, ALL_USUAL, ALL_USUAL, 1ull | 1ull << 5, 1ull | 1ull << 63, 1,
+static const uint64_t usual_roster[ROSTER] = {ALL_USUAL, ALL_USUAL, ALL_USUAL, ALL_USUAL, ALL_USUAL & ~1ull, 1ull << 5, 1ull | 1ull << 63, 1,
                                               KEYS_3_TO_2, KEYS_3_TO_2, KEYS_3_TO_2, KEYS_3_TO_2, KEYS_3_TO_2,
-                                              7ull << 30, 7ull << 29, 1ull << 31};
+                                              7ull << 30, 3ull << 29, 0};
 
 /* The order of evaluation is left open within an expression of C, so no expression here has two numbers whose order matters. */
 
@@ -121,17 +122,20 @@ static inline uint64_t lengthened(uint64_t length)
     return lower | upper << (32 + below(28));
 }
 
+/* The usual one and more; here and there without partition 0, or without any partition. */
 static inline void a_roster(struct call *c)
 {
     c->count = seldom(8) ? below(18) : seldom(8) ? lengthened(ROSTER) : ROSTER;
     for (uint32_t i = 0; i < 18; i++) c->list[i] = usual_roster[i % ROSTER] | (any64() & any64() & ~(1ull << 63));
+    for (uint32_t party = 0; party < PARTIES; party++)
+        if (seldom(4)) c->list[party] = seldom(4) ? 0 : c->list[party] & ~set_of(0);
     if (seldom(4)) c->list[below(ROSTER)] |= 1ull << 63;
 }
 
-/* A put that its party is allowed, whoever it is. */
-static inline void a_plain_put(struct call *c)
+/* A put that its party is allowed, under a partition that it holds. */
+static inline void a_plain_put(struct call *c, const uint64_t *space)
 {
-    c->set[0] = c->set[1] = set_of(0);
+    if (c->party < PARTIES) c->set[0] = c->set[1] = one_of(space[PARTITIONS_AT + c->party]);
     c->key[0] = c->key[1] = 0;
     for (uint32_t i = 0; i < MOST_FIELDS; i++) c->list[i] = below(3);
 }
@@ -151,7 +155,7 @@ static inline void a_call(struct call *c, const uint64_t *space, uint32_t percen
     c->room = seldom(30) ? below(MOST_FIELDS) : MOST_FIELDS;
     if (c->kind == OPEN) a_roster(c);
     else for (uint32_t i = 0; i < 18; i++) c->list[i] = a_field(c->kind != PUT);
-    if (c->kind == PUT && percent_puts > 90 && seldom(2)) a_plain_put(c);
+    if (c->kind == PUT && percent_puts > 90 && seldom(2)) a_plain_put(c, space);
     if (c->kind > PUT && some_rows && seldom(2)) a_match(c, space);
     if (seldom(200)) c->space_len = lengthened(c->space_len);
     if (seldom(100)) c->count = lengthened(c->count);

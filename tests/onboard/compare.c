@@ -1,8 +1,9 @@
 /* The proved library against plain C, call by call, on the machine that this runs on: the answer, every word of space and result,
-   what was lent to be read, and guard words around all of it. By itself it is seen that a look leaves every word of the space, that
-   whoever receives or takes a name holds it, and that a name which isn't held is refused by its own number. Calls at random come first,
-   then each of the 128 rows in its turn. Prints how often each answer was seen in the calls at random and a hash of their sequence,
-   which is the same on every machine. Ends with status 1 where the two differ, or where something was never tried. */
+   what was lent to be read, and guard words around all of it. By itself it is seen that an opening gives what the roster says and key 0,
+   that no call is refused for a damage that nobody has done, that a look leaves every word of the space, that whoever receives or takes
+   a name holds it, and that a name which isn't held is refused by its own number. Calls at random come first, then each of the 128 rows
+   in its turn. Prints how often each answer was seen in the calls at random and a hash of their sequence, which is the same on every
+   machine. Ends with status 1 where the two differ, or where something was never tried. */
 #include "calls.h"
 #include "plain.h"
 #include "space.h"
@@ -44,8 +45,9 @@ static uint32_t make(const struct side *by, struct lent *on, const struct call *
 }
 
 /* Bits of the space turned over, by the clause of soundness that this should break; 0 where the space has no place for that. The clauses
-   are S2 to S9 of docs/RULES.md, then S6 by a bound or by an empty set in a live row. */
-enum { FIRST_CLAUSE = 2, BY_AT_LEAST = 10, BY_AT_MOST, BY_READ_SET, BY_TAKE_SET, CLAUSES };
+   are S2 and S4 to S9 of docs/RULES.md, then S6 by a bound or by an empty set in a live row. UNBROKEN breaks none: it changes what
+   partitions a party holds, of which no clause asks anything. */
+enum { FIRST_CLAUSE = 2, UNBROKEN = 3, BY_AT_LEAST = 10, BY_AT_MOST, BY_READ_SET, BY_TAKE_SET, CLAUSES };
 
 static int damage(uint32_t clause, const uint64_t *space, uint32_t *word, uint64_t *bits)
 {
@@ -54,7 +56,7 @@ static int damage(uint32_t clause, const uint64_t *space, uint32_t *word, uint64
     *bits = 1ull << below(64);
     switch (clause) {
     case 2: return *word = 0, *bits = 1ull << (8 + below(56)), 1;
-    case 3: return *word = PARTITIONS_AT + below(PARTIES), *bits = 1, 1;
+    case UNBROKEN: return *word = PARTITIONS_AT + below(PARTIES), *bits = seldom(2) ? set_of(0) : any64(), 1;
     case 4: return *word = KEYS_AT + below(PARTIES), *bits = 1ull << 31, 1;
     case 5: return *word = KEYS_AT + below(PARTIES), *bits = 1ull << 63, 1;
     case 6: return *word = at + in_head[below(5)], *bits = 1ull << (6 + below(58)), live > 0;
@@ -75,6 +77,12 @@ static uint32_t answers[KINDS][ANSWERS], damaged[CLAUSES], long_space, long_rost
 static uint64_t hash = 0xcbf29ce484222325u;
 static uint64_t earlier[WORDS]; /* the library's space before a call */
 static uint32_t lacked[KINDS];  /* found with a name that the party did not hold */
+
+/* Of openings: how often a party is given partition 0, or others alone, or no partition; and key 0, though the roster doesn't list it. Of
+   calls by whoever lacks partition 0: how often one is carried out, or refused by 113 or 107 for it alone, or finds it in a field. */
+static uint32_t given_0, given_others, given_none, given_key_0;
+enum { CARRIED_OUT, LACKED_IN_PAIR, LACKED_IN_FIELD, FOUND_IN_FIELD, WITHOUT_0 };
+static uint32_t without_0[KINDS][WITHOUT_0];
 
 /* What the bounds met with, each counted for itself: in a put that was refused by 105, or in a template that was not refused. */
 enum { NONE, FOUND, ITS_NUMBER, BY_0, BY_THE_LARGEST, A_PARTITION, A_KEY, IN_A_PUT, MEETINGS };
@@ -166,6 +174,28 @@ static void count_names(const struct call *c, uint32_t answer)
     full_and_lacking[answer == 113 ? 0 : answer == 114 ? 1 : 2] += live == SHARE;
 }
 
+static void count_opening(const uint64_t *roster)
+{
+    for (uint32_t p = 0; p < PARTIES; p++) {
+        ++*(has(roster[p], 0) ? &given_0 : roster[p] ? &given_others : &given_none);
+        given_key_0 += !has(roster[PARTIES + p], 31);
+    }
+}
+
+static void count_without_0(const struct call *c, uint32_t answer)
+{
+    uint32_t *times = without_0[c->kind], in_fields = 0, others = 0;
+    if (!is_after_names(answer) || has(earlier[PARTITIONS_AT + c->party], 0)) return;
+    uint64_t sets = c->kind == PUT ? c->set[0] | c->set[1] : c->set[0];
+    times[CARRIED_OUT] += answer <= MOST_FIELDS;
+    times[LACKED_IN_PAIR] += (sets & ~earlier[PARTITIONS_AT + c->party]) == set_of(0);
+    for (uint32_t i = 0; answer == 107 && i < c->count; i++)
+        if (c->list[i] < WILDCARD && lacks(earlier, c->party, c->list[i])) ++*(c->list[i] == PARTITION_FIELD ? &in_fields : &others);
+    times[LACKED_IN_FIELD] += in_fields && !others;
+    for (uint32_t i = 0; c->kind > PUT && answer <= MOST_FIELDS && i < answer; i++)
+        if (proved.result[i] == PARTITION_FIELD) { times[FOUND_IN_FIELD]++; break; }
+}
+
 /* Does a row agree with a template in count, key and fields? One with bounds isn't asked about. */
 static int agrees_otherwise(const struct call *c, const uint64_t *row)
 {
@@ -210,6 +240,8 @@ static void count(const struct call *c, uint32_t answer)
     count_bounds(c, answer);
     count_sets(c, answer);
     count_names(c, answer);
+    if (c->kind != OPEN) count_without_0(c, answer);
+    else if (answer == 0) count_opening(c->list);
     lacked[c->kind] += lacking(c, answer, earlier) > 0;
     if (c->space_len >> 32) long_space++;
     else if (c->count >> 32) *(c->kind == OPEN ? &long_roster : &long_fields) += answer == (c->kind == OPEN ? 109 : 103);
@@ -218,6 +250,13 @@ static void count(const struct call *c, uint32_t answer)
     if (proved.space[0] <= ROWS && proved.space[0] > most_rows) most_rows = (uint32_t)proved.space[0];
     hash_in(answer);
     for (uint32_t i = 0; i < MOST_FIELDS; i++) hash_in(proved.result[i]);
+}
+
+static int opened_by(const uint64_t *roster)
+{
+    for (uint32_t p = 0; p < PARTIES; p++)
+        if (proved.space[PARTITIONS_AT + p] != roster[p] || proved.space[KEYS_AT + p] != (roster[PARTIES + p] | 1ull << 31)) return 0;
+    return 1;
 }
 
 /* what differs after a call, in a word; nothing where all is alike */
@@ -229,6 +268,7 @@ static const char *difference(uint32_t by_library, uint32_t by_c, const struct c
         if (a[i] != b[i]) return "words";
     for (uint32_t i = 0; now->kind == LOOK && i < WORDS; i++)
         if (proved.space[i] != earlier[i]) return "space after a look";
+    if (now->kind == OPEN && by_library == 0 && !opened_by(now->list)) return "holdings";
     if (now->kind > LOOK && lacking(now, by_library, proved.space)) return "names";
     if (now->kind != OPEN && is_after_names(by_library)
         && refusal_for(lacked_by(now, earlier)) != (is_for_name(by_library) ? by_library : 0)) return "refusal for a name";
@@ -253,24 +293,29 @@ static uint32_t alike(const struct call *c, const char *which, uint32_t number)
     return a;
 }
 
-static uint32_t one_call(const struct call *c, uint32_t number)
+static uint32_t one_call(const struct call *c, uint32_t number, int is_sound)
 {
     uint32_t answer = alike(c, "call", number);
+    if (is_sound && answer == 101 && c->kind != OPEN && c->space_len == WORDS) {
+        printf("FAILED at call %u, a call of kind %u: a sound space is refused\n", (unsigned)number, (unsigned)c->kind);
+        return ANSWERS;
+    }
     if (answer != ANSWERS) count(c, answer);
     return answer;
 }
 
 static void turn(uint32_t word, uint64_t bits) { proved.space[word] ^= bits, plain.space[word] ^= bits; }
 
-/* A call on a damaged space. What a refusal leaves is mended again. */
+/* A call on a damaged space. What a refusal leaves is mended again. A change that breaks no clause stays. */
 static uint32_t damaged_call(const struct call *c, uint32_t number)
 {
     uint32_t word, clause = FIRST_CLAUSE + below(CLAUSES - FIRST_CLAUSE);
     uint64_t bits;
-    if (!damage(clause, proved.space, &word, &bits)) return one_call(c, number);
+    if (!damage(clause, proved.space, &word, &bits)) return one_call(c, number, 1);
     turn(word, bits);
-    uint32_t answer = one_call(c, number);
-    if (answer == 101) turn(word, bits), damaged[clause] += c->kind != OPEN && c->space_len == WORDS;
+    uint32_t answer = one_call(c, number, clause == UNBROKEN);
+    if (answer == 101 || answer == 109) turn(word, bits); /* the second is of an opening */
+    damaged[clause] += c->kind != OPEN && c->space_len == WORDS && (answer == 101) == (clause != UNBROKEN);
     return answer;
 }
 
@@ -287,7 +332,7 @@ static int all_calls(void)
             for (uint32_t i = 0; i < ROSTER; i++) c.list[i] = usual_roster[i];
             for (uint32_t i = 0; i < WORDS; i++) hash_in(proved.space[i]);
         }
-        uint32_t answer = in_block && proved.space[0] <= ROWS && seldom(20) ? damaged_call(&c, n) : one_call(&c, n);
+        uint32_t answer = in_block && proved.space[0] <= ROWS && seldom(20) ? damaged_call(&c, n) : one_call(&c, n, n > 0);
         if (answer == ANSWERS) return 0;
     }
     return 1;
@@ -408,6 +453,20 @@ static int all_lacked(const char *const *names)
     return ok & tried("receive:", short_and_lacking[RECEIVE]) & tried("take:", short_and_lacking[TAKE]);
 }
 
+static int all_without_0(const char *const *names)
+{
+    static const char *const whats[] = {"carried out", "refused by 113 for it alone", "refused by 107 for it alone", "it is found"};
+    int ok = tried("openings that give a party partition 0:", given_0) & tried("other partitions alone:", given_others);
+    ok &= tried("no partition:", given_none) & tried("key 0, which isn't listed:", given_key_0);
+    for (uint32_t kind = PUT; kind < KINDS; kind++)
+        for (uint32_t i = 0; i < (kind == PUT ? FOUND_IN_FIELD : WITHOUT_0); i++) {
+            char what[64];
+            snprintf(what, sizeof what, "%s without partition 0, %s:", names[kind], whats[i]);
+            ok &= tried(what, without_0[kind][i]);
+        }
+    return ok;
+}
+
 static int all_tried(void)
 {
     static const char *const names[] = {"open", "put", "look", "receive", "take"}, *const bounds[] = {"at least", "at most"};
@@ -429,7 +488,8 @@ static int all_tried(void)
     ok &= tried("take gave it:", lacked[TAKE]);
     for (uint32_t clause = FIRST_CLAUSE; clause < CLAUSES; clause++) {
         char what[48];
-        if (clause < BY_AT_LEAST) snprintf(what, sizeof what, "damage refused, S%u:", (unsigned)clause);
+        if (clause == UNBROKEN) snprintf(what, sizeof what, "partitions changed, and no damage:");
+        else if (clause < BY_AT_LEAST) snprintf(what, sizeof what, "damage refused, S%u:", (unsigned)clause);
         else if (clause < BY_READ_SET) snprintf(what, sizeof what, "damage refused, S6, %s in a row:", bounds[clause - BY_AT_LEAST]);
         else snprintf(what, sizeof what, "damage refused, S6, an empty %s set:", clause == BY_READ_SET ? "read" : "take");
         ok &= tried(what, damaged[clause]);
@@ -446,7 +506,7 @@ static int all_tried(void)
             snprintf(what, sizeof what, "%s, %s:", names[kind], sets[m]);
             ok &= tried(what, by_sets[kind][m]);
         }
-    ok &= all_lacked(names);
+    ok &= all_lacked(names) & all_without_0(names);
     ok &= tried("lengths of 2^32 and more, space:", long_space) & tried("roster:", long_roster) & tried("fields:", long_fields);
     ok &= tried("result, and found:", long_result) & tried("bit 63 in a roster:", bound_63);
     printf("most live rows %u%s\n", (unsigned)most_rows, most_rows == ROWS ? "" : " FAILED: never full");

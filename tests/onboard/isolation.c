@@ -1,6 +1,7 @@
 /* Pairs of runs on the machine that this runs on: a watched group makes the same calls in both, everybody else makes calls of
    their own that keep the premise (G7 of docs/RULES.md). The group's answers and fields, its live entries and its holdings must
-   be the same in both, and no member may come to hold a name that is not the group's. */
+   be the same in both, and no member may come to hold a name that is not the group's. Some groups aren't given partition 0: then the
+   others may use it with any key. */
 #include "calls.h"
 #include "space.h"
 #include <stdio.h>
@@ -20,9 +21,13 @@ static uint32_t found_by_several, others_found_by_several; /* templates with sev
 static uint32_t spared_by_key;  /* others' calls with a set that overlaps the group's names in part, out of the grasp by the key */
 static uint32_t reached_by_one; /* others' pairs in the grasp by one of several partitions: such a call is made so that it is refused */
 
+/* Where the group has no partition 0: pairs of runs; members' calls refused for it alone; others' calls under it, done or found, with a
+   key by which the group would reach them if it had it: by whether it stands alone or in a set. */
+static uint32_t pairs_without_0, refused_for_0, others_in_0[2][KINDS];
+
 static int member(uint32_t party) { return party < PARTIES && group >> party & 1; }
 
-/* The group is given of the first four, the others of all. */
+/* The group is given of the first four, or of the three after 0, the others of all. */
 static const uint8_t run_partitions[10] = {0, 1, 33, 63, 2, 5, 31, 32, 40, 62};
 
 /* About three in four of the first partitions. */
@@ -74,18 +79,28 @@ static int only_by_key(const struct call *c)
     return 0;
 }
 
+static int is_found(uint32_t answer) { return answer - 1 < MOST_FIELDS; }
+
+static void count_in_0(const struct call *c, uint32_t answer)
+{
+    if (has(partitions, 0) || !(c->kind == PUT ? answer == 0 : is_found(answer))) return;
+    for (uint32_t i = 0; i < (c->kind == PUT ? 2 : 1); i++)
+        if (has(c->set[i], 0) && co_key_held(c->key[i])) others_in_0[is_of_several(c->set[i])][c->kind]++;
+}
+
 /* About three in four of the bits. */
 static uint64_t most_of(uint64_t bits) { return bits & (any64() | any64()); }
 
-/* Both openings give the members the same, of four partitions and keys -3 to 3; what the others get, of more, differs. */
+/* Both openings give the members the same, of four partitions and keys -3 to 3, every second time without partition 0; what the others
+   get, of more, differs. */
 static void open_both(void)
 {
-    uint64_t roster[2][ROSTER];
+    uint64_t roster[2][ROSTER], kept_from = seldom(2) ? set_of(0) : 0;
     group = 1 + below(254);
-    partitions = 1, keys = 1ull << 31;
+    partitions = 0, keys = 1ull << 31;
     for (uint32_t p = 0; p < PARTIES; p++)
         if (member(p)) {
-            partitions |= roster[0][p] = roster[1][p] = most_of_first(4);
+            partitions |= roster[0][p] = roster[1][p] = most_of_first(4) & ~kept_from;
             keys |= roster[0][8 + p] = roster[1][8 + p] = most_of(0x7Full << 28);
         } else
             for (uint32_t run = 0; run < 2; run++) {
@@ -96,6 +111,7 @@ static void open_both(void)
         for (uint32_t i = 0; i < WORDS; i++) space[run][i] = any64();
         space_open(space[run], WORDS, roster[run], ROSTER);
     }
+    pairs_without_0 += !has(partitions, 0);
 }
 
 static uint32_t make(uint32_t run, const struct call *c, uint64_t *result)
@@ -150,14 +166,23 @@ static void other_call(uint32_t run)
     uint64_t result[MOST_FIELDS];
     a_run_call(&c, 10, 6);
     c.party = a_party(0);
+    for (uint32_t i = 0; i < 2 && !has(partitions, 0); i++)
+        if (seldom(3)) c.set[i] = seldom(2) ? set_of(0) : c.set[i] | set_of(0);
     if (in_grasp(&c)) c.count = seldom(2) ? 0 : 9;
     uint32_t answer = make(run, &c, result);
     if (answer <= MOST_FIELDS) spared_by_key += only_by_key(&c);
+    count_in_0(&c, answer);
     if (c.kind == PUT) others_done += answer == 0;
-    else if (answer - 1 < MOST_FIELDS) {
+    else if (is_found(answer)) {
         others_found[c.kind]++, others_found_by_bounds += has_bound(&c);
         others_found_by_several += is_of_several(c.set[0]);
     }
+}
+
+static int only_0_lacked(const struct call *c, const uint64_t *had)
+{
+    uint64_t sets = c->kind == PUT ? c->set[0] | c->set[1] : c->set[0];
+    return (sets & ~had[PARTITIONS_AT + c->party]) == set_of(0);
 }
 
 static int group_call(void)
@@ -167,6 +192,8 @@ static int group_call(void)
     uint32_t answer[2], lacking = 0;
     a_run_call(&c, 4, 3);
     c.party = a_party(1);
+    for (uint32_t i = 0; i < 2 && !has(partitions, 0); i++)
+        if (has(c.set[i], 0) && below(4)) c.set[i] = set_of(run_partitions[1 + below(3)]);
     for (uint32_t i = 0; i < ROWS_AT; i++) had[i] = space[0][i];
     for (uint32_t run = 0; run < 2; run++) {
         for (uint32_t i = 0; i < MOST_FIELDS; i++) result[run][i] = any64();
@@ -174,7 +201,8 @@ static int group_call(void)
     }
     compared++;
     if (answer[0] != answer[1]) return 0;
-    if (c.kind == PUT || answer[0] - 1 >= MOST_FIELDS) return 1;
+    refused_for_0 += !has(partitions, 0) && answer[0] == 113 && only_0_lacked(&c, had);
+    if (c.kind == PUT || !is_found(answer[0])) return 1;
     found[c.kind]++, found_by_bounds += has_bound(&c), found_by_several += is_of_several(c.set[0]);
     for (uint32_t i = 0; i < answer[0]; i++) {
         if (result[0][i] != result[1][i]) return 0;
@@ -241,8 +269,15 @@ int main(void)
     printf("found by sets of several: by the group %u, by others %u\n", (unsigned)found_by_several, (unsigned)others_found_by_several);
     printf("others' calls with a set that overlaps the group's names in part, kept out of the grasp by a key %u\n", (unsigned)spared_by_key);
     printf("others' pairs in the grasp by one of several partitions, all refused %u\n", (unsigned)reached_by_one);
+    printf("groups without partition 0: pairs of runs %u, members' calls refused for it alone %u\n", (unsigned)pairs_without_0,
+           (unsigned)refused_for_0);
+    for (uint32_t several = 0; several < 2; several++) {
+        printf("others' puts there under partition 0%s, done %u\n", several ? " in a set" : "", (unsigned)others_in_0[several][PUT]);
+        all &= tried(several ? "found there by sets with partition 0:" : "found there by partition 0:", others_in_0[several]);
+        all &= others_in_0[several][PUT] > 0;
+    }
     if (!all || !compared || !entries || !others_done || !found_by_bounds || !others_found_by_bounds || !found_by_several
-        || !others_found_by_several || !spared_by_key || !reached_by_one)
+        || !others_found_by_several || !spared_by_key || !reached_by_one || !pairs_without_0 || pairs_without_0 == PAIRS || !refused_for_0)
         return printf("FAILED: a count is 0\n"), 1;
     printf("%u pairs of runs alike\n", (unsigned)PAIRS);
     return 0;

@@ -8,8 +8,8 @@ static uint64_t space[WORDS], result[MOST_FIELDS];
 
 int main(void)
 {
-    static const uint64_t right[ROSTER] = {1ull << 5, 1ull << 5, [8] = 1ull << 35, 1ull << 27};
-    static const uint8_t file[] = "party kind name\n0 p 5\n0 k 4\n1 k -4\n1 p 5\n1 k -4\n1 p 64\n";
+    static const uint64_t right[ROSTER] = {1ull << 5, 1ull | 1ull << 5, [8] = 1ull << 35, 1ull << 27};
+    static const uint8_t file[] = "party kind name\n0 p 5\n0 k 4\n1 k -4\n1 p 5\n1 p 0\n1 k -4\n1 p 64\n";
     uint64_t roster[ROSTER], five = set_of(5), with_0 = set_of(0) | five, with_9 = five | set_of(9);
     static const uint64_t entry[2] = {7, 120}, first[2] = {7, WILDCARD}, any[2] = {WILDCARD, WILDCARD}, key_4[1] = {KEY_FIELD + 35};
     /* 7, 3 and 1 in this order, then a chain from 1 back to 3, then a party that there isn't */
@@ -27,6 +27,8 @@ int main(void)
     if (space_take(space, WORDS, 0, five, -4, any, 2, result, MOST_FIELDS) != 114) return 4;
     if (space_put(space, WORDS, 1, five, -4, five, -4, key_4, 1) != 107) return 17;
     if (space_put(space, WORDS, 0, five, -4, with_9, 4, key_4, 1) != 113) return 18;
+    if (space_put(space, WORDS, 0, 1, 0, 1, 0, entry, 2) != 113) return 23;
+    if (space_put(space, WORDS, 0, five, 0, with_0, 0, entry, 2) != 113) return 24;
     for (int i = 0; i < SHARE; i++)
         if (space_put(space, WORDS, 1, 1, 0, 1, 0, any + 1, 1) != 105 || space_put(space, WORDS, 1, 1, 0, 1, 0, entry, 2) != 0) return 5;
     if (space_put(space, WORDS, 1, 1, 0, 1, 0, entry, 2) != 108) return 6;
