@@ -1,4 +1,4 @@
--- Going down a table: a test that applies decides, and one that does not leaves the rest to decide.
+-- Tables that begin with tests of which it is known what they say; verdicts and admissions, back to where they come from.
 use Prim.Native.Nat.{ℕ, _≤_, _<_}
 use mathlib.Core.Path.{_≡_, refl, ap}
 use mathlib.Core.Logic.{_⊎_, inl, inr}
@@ -11,7 +11,7 @@ use lib.Dec.{eqb, ltb}
 use lib.ListN.{length}
 use Rattle.rules.specs.Lists.{All}
 use Rattle.rules.specs.State.{live}
-use Rattle.rules.specs.Calls.{Table, firstThatApplies, heldTests}
+use Rattle.rules.specs.Calls.{Table, firstThatApplies}
 use Rattle.rules.specs.Words.{decode, sound}
 use Rattle.rules.proofs.ListLaws.{bool, passed, not-false, or-right}
 use Rattle.rules.proofs.Back.{sound-facts}
@@ -19,25 +19,13 @@ use Rattle.audit.specs.Audited.{audited}
 use Rattle.audit.specs.declared.Finding.the-variants.{Unsound, Sound}
 use denote.Enum.Declared.{tagOf}
 use types.Run.{OneOf}
-use Rattle.refusals.specs.Verdicts.{verdictOf, verdict, firstTests, begun, admittedBy, boundsIn}
+use Rattle.held.specs.Verdicts.{verdictOf, verdict}
+use Rattle.held.specs.declared.Verdict.{Verdict}
+use Rattle.held.specs.declared.Verdict.the-variants.{Passed, Refused}
+use Rattle.refusals.specs.Admissions.{firstTests, begun, admittedBy, boundsIn}
 use Rattle.refusals.proofs.Admission.{the-type}
 use Rattle.refusals.specs.declared.Admission.the-variants as admission
 use Rattle.refusals.specs.declared.Begun.the-variants as tests
-use Rattle.refusals.specs.declared.Verdict.{Verdict}
-use Rattle.refusals.specs.declared.Verdict.the-variants.{Passed, Refused}
-
-module _ (b : Bool) (n : ℕ) (ts : Table) where
-  pub decides : b ≡ true → Refused n ≡ verdict ((b, n) ∷ ts)
-  unfolding verdict
-  decides h = rw h refl
-
-  pub leaves : (v : Verdict) → b ≡ false → v ≡ verdict ts → v ≡ verdict ((b, n) ∷ ts)
-  unfolding verdict
-  leaves v h e = rw h e
-
--- the tests of names, by what is held
-pub names-by : {a k f x y z : Bool} (v : Verdict) → a ≡ x → k ≡ y → f ≡ z → v ≡ verdict (heldTests a k f) → v ≡ verdict (heldTests x y z)
-names-by v p q r e = rw (p, q, r) at e
 
 -- ---- the tests that come first
 
@@ -126,10 +114,6 @@ admitted-passed Passed p k = refl
 pub bounds-admitted : (p : Bool) → not (boundsIn (admittedBy Passed p)) ≡ p
 bounds-admitted true = refl
 bounds-admitted false = refl
-
-pub passes : Passed ≡ verdict []
-unfolding verdict
-passes = refl
 
 -- what the audit's answer says of the words
 module _ (ws : List ℕ) (who : ℕ) where

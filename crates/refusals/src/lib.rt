@@ -1,26 +1,22 @@
 // When a call is turned away: the tests in the table's order, of which the first that applies decides. Counters are u32,
 // since the board's core has 32 bits.
 use audit::Finding;
+use held::Verdict;
 ghost use mathlib.Core.Path.{_≡_};
-ghost use mathlib.Core.Bool.{true, not};
-ghost use mathlib.Core.List.{[], _∷_};
-ghost use Prim.Native.Nat.{_≤_, _<_};
+ghost use mathlib.Core.Bool.{not};
+ghost use mathlib.Core.List.{_∷_};
+ghost use Prim.Native.Nat.{_≤_};
 ghost use lib.ListN.{length};
 ghost use Rattle.rules.specs.Lists.{all};
-ghost use Rattle.rules.specs.Names.{keyInRange, stored, bit, heldIn};
 ghost use Rattle.rules.specs.Partitions.{sets};
-ghost use Rattle.rules.specs.Fields.{templateField, namesIn};
-ghost use Rattle.rules.specs.Matching.{pair, storedPair};
+ghost use Rattle.rules.specs.Fields.{templateField};
+ghost use Rattle.rules.specs.Matching.{pair};
 ghost use Rattle.rules.specs.State.{live};
-ghost use Rattle.rules.specs.Calls.{firstThatApplies, badPair, heldTests, nameTests, putTable, seekTable};
+ghost use Rattle.rules.specs.Calls.{firstThatApplies, badPair, putTable, seekTable};
 ghost use Rattle.rules.specs.Words.{decode, sound, badRoster};
 ghost use Rattle.words.specs.Kind.{plain};
-ghost use Rattle.refusals.specs.Verdicts.{verdict, firstTests, begun, refusalIn, admittedBy, boundsIn};
-
-pub enum Verdict {
-    Passed,
-    Refused(u32),
-}
+ghost use Rattle.held.specs.Verdicts.{verdict};
+ghost use Rattle.refusals.specs.Admissions.{firstTests, begun, refusalIn, admittedBy, boundsIn};
 
 // What becomes of a look, receive or take. Where it passes, the search has to know whether the template has bounds.
 pub enum Admission {
@@ -59,7 +55,7 @@ pub fn of_put(
     if !rows::put_fields(fields) {
         return Verdict::Refused(5);
     }
-    let names = put_names(
+    let names = held::put_names(
         space,
         party,
         read_partitions,
@@ -102,7 +98,7 @@ pub fn of_seek(
     if room < template.len() {
         return Admission::Refused(6);
     }
-    let names = seek_names(space, party, partitions, key, template);
+    let names = held::seek_names(space, party, partitions, key, template);
     admitted(names, unbounded)
 }
 
@@ -202,86 +198,6 @@ fn template_fields(template: &[u64]) -> bool
     let mut i = 0;
     while i < n {
         if !words::template_field(template[i as usize]) {
-            return false;
-        }
-        i += 1;
-    }
-    true
-}
-
-// R13, R14, R7
-fn put_names(
-    space: &[u64],
-    party: u32,
-    read_partitions: u64,
-    read_key: i32,
-    take_partitions: u64,
-    take_key: i32,
-    fields: &[u64],
-) -> Verdict
-    requires { ⌜ (length (now space) ≡ 1809) × (party < 8) × (keyInRange «read_key» ≡ true) × (keyInRange «take_key» ≡ true) × (length (now fields) ≤ 8) ⌝ }
-    ensures { λ r. ⌜ r ≡ verdict (nameTests sets (decode (now (space .entry))) party (storedPair (pair «read_partitions» «read_key») ∷ storedPair (pair «take_partitions» «take_key») ∷ []) (now (fields .entry))) ⌝ }
-{
-    let p = party as usize;
-    let partitions = space[1 + p];
-    let keys = space[9 + p];
-    let read_in = words::set_held(partitions, read_partitions);
-    let take_in = words::set_held(partitions, take_partitions);
-    let has_read = key_held(keys, read_key);
-    let has_take = key_held(keys, take_key);
-    let within = read_in & take_in;
-    let has_keys = has_read & has_take;
-    missing(partitions, keys, within, has_keys, fields)
-}
-
-// R13, R14, R7
-fn seek_names(space: &[u64], party: u32, set: u64, key: i32, template: &[u64]) -> Verdict
-    requires { ⌜ (length (now space) ≡ 1809) × (party < 8) × (keyInRange key ≡ true) × (length (now template) ≤ 8) ⌝ }
-    ensures { λ r. ⌜ r ≡ verdict (nameTests sets (decode (now (space .entry))) party (storedPair (pair set key) ∷ []) (now (template .entry))) ⌝ }
-{
-    let p = party as usize;
-    let partitions = space[1 + p];
-    let keys = space[9 + p];
-    let within = words::set_held(partitions, set);
-    let has_key = key_held(keys, key);
-    missing(partitions, keys, within, has_key, template)
-}
-
-// R13, R14, R7, by whether all partitions of pairs are held, all their keys, and the names in fields.
-fn missing(partitions: u64, keys: u64, within: bool, has_keys: bool, fields: &[u64]) -> Verdict
-    requires { ⌜ length (now fields) ≤ 8 ⌝ }
-    ensures { λ r. ⌜ r ≡ verdict (heldTests within «has_keys» (all (heldIn partitions keys) (namesIn (now (fields .entry))))) ⌝ }
-{
-    if !within {
-        return Verdict::Refused(13);
-    }
-    if !has_keys {
-        return Verdict::Refused(14);
-    }
-    if !fields_held(partitions, keys, fields) {
-        return Verdict::Refused(7);
-    }
-    Verdict::Passed
-}
-
-// R14: the key of a pair.
-fn key_held(keys: u64, key: i32) -> bool
-    requires { ⌜ keyInRange key ≡ true ⌝ }
-    ensures { λ r. ⌜ r ≡ bit keys (stored key) ⌝ }
-{
-    let stored = words::stored_key(key);
-    words::has_bit(keys, stored)
-}
-
-// R7: the names in fields.
-fn fields_held(partitions: u64, keys: u64, fields: &[u64]) -> bool
-    requires { ⌜ length (now fields) ≤ 8 ⌝ }
-    ensures { λ r. ⌜ r ≡ all (heldIn partitions keys) (namesIn (now (fields .entry))) ⌝ }
-{
-    let n = fields.len() as u32;
-    let mut i = 0;
-    while i < n {
-        if !words::field_held(partitions, keys, fields[i as usize]) {
             return false;
         }
         i += 1;

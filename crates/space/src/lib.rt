@@ -1,6 +1,6 @@
 // The five calls of the space: open, put, look, receive and take.
+use held::Verdict;
 use refusals::Admission;
-use refusals::Verdict;
 use search::Found;
 use search::Op;
 ghost use mathlib.Core.Path.{_≡_};

@@ -1,7 +1,7 @@
 -- `admitted` meets its contract: by the tests of names, and by whether all fields are plain.
 use mathlib.Core.Path.{sym, ap}
-use Rattle.refusals.specs.Verdicts.{admittedBy}
-use Rattle.refusals.specs.declared.Verdict.{Verdict}
+use Rattle.held.specs.declared.Verdict.{Verdict}
+use Rattle.refusals.specs.Admissions.{admittedBy}
 use borrow.Author.Needs.{needs}
 use Rattle.refusals.proofs.admitted.Statement.{statement}
 use Rattle.refusals.proofs.admitted.Tie as tie

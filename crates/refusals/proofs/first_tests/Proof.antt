@@ -6,7 +6,7 @@ use lib.Dec.{ltb}
 use Rattle.rules.specs.State.{live}
 use Rattle.rules.specs.Calls.{badCount}
 use Rattle.rules.specs.Words.{decode, sound}
-use Rattle.refusals.specs.Verdicts.{firstTests, begun}
+use Rattle.refusals.specs.Admissions.{firstTests, begun}
 use Rattle.refusals.proofs.Tables.{unsound, audited-sound}
 use borrow.Author.Needs.{needs}
 use Rattle.refusals.proofs.first_tests.Statement.{statement}

@@ -17,10 +17,12 @@ use Rattle.rules.specs.Calls.{Table, firstThatApplies, badPair, nameTests, putT
 use Rattle.rules.specs.Words.{decode, sound}
 use Rattle.rules.proofs.ListLaws.{or-left, or-right}
 use Rattle.rules.proofs.KeyLaws.{pair-in-range}
-use Rattle.refusals.specs.Verdicts.{verdict, firstTests, refusalIn}
-use Rattle.refusals.specs.declared.Verdict.{Verdict}
-use Rattle.refusals.specs.declared.Verdict.the-variants.{Refused}
-use Rattle.refusals.proofs.Tables.{decides, leaves, passes, begin-decides, begin-leaves, first-decides, first-leaves, live-by, first-passed}
+use Rattle.held.specs.Verdicts.{verdict}
+use Rattle.held.specs.declared.Verdict.{Verdict}
+use Rattle.held.specs.declared.Verdict.the-variants.{Refused}
+use Rattle.held.proofs.Tables.{decides, leaves, passes}
+use Rattle.refusals.specs.Admissions.{firstTests, refusalIn}
+use Rattle.refusals.proofs.Tables.{begin-decides, begin-leaves, first-decides, first-leaves, live-by, first-passed}
 use borrow.Author.Needs.{needs}
 use Rattle.refusals.proofs.of_put.Statement.{statement}
 use Rattle.refusals.proofs.of_put.Tie as tie

@@ -17,11 +17,13 @@ use Rattle.rules.specs.Calls.{Table, firstThatApplies, badPair, nameTests, seek
 use Rattle.rules.specs.Words.{decode, sound}
 use Rattle.rules.proofs.KeyLaws.{pair-in-range}
 use Rattle.words.specs.Kind.{plain}
-use Rattle.refusals.specs.Verdicts.{verdict, firstTests, refusalIn, admittedBy}
+use Rattle.held.specs.Verdicts.{verdict}
+use Rattle.held.specs.declared.Verdict.{Verdict}
+use Rattle.held.specs.declared.Verdict.the-variants.{Refused}
+use Rattle.held.proofs.Tables.{decides, leaves}
+use Rattle.refusals.specs.Admissions.{firstTests, refusalIn, admittedBy}
 use Rattle.refusals.specs.declared.Admission.{Admission}
-use Rattle.refusals.specs.declared.Verdict.{Verdict}
-use Rattle.refusals.specs.declared.Verdict.the-variants.{Refused}
-use Rattle.refusals.proofs.Tables.{decides, leaves, first-decides, first-leaves, live-by, first-passed}
+use Rattle.refusals.proofs.Tables.{first-decides, first-leaves, live-by, first-passed}
 use borrow.Author.Needs.{needs}
 use Rattle.refusals.proofs.of_seek.Statement.{statement}
 use Rattle.refusals.proofs.of_seek.Tie as tie

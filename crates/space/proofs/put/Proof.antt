@@ -15,7 +15,7 @@ use Rattle.rules.specs.State.{withEntries}
 use Rattle.rules.specs.Calls.{done, Table, firstThatApplies, putTable}
 use Rattle.rules.specs.Words.{encode, decode, sound, exit}
 use Rattle.rules.proofs.Decided.{call-by, passes-call}
-use Rattle.refusals.specs.Verdicts.{verdict}
+use Rattle.held.specs.Verdicts.{verdict}
 use Rattle.refusals.proofs.Tables.{verdict-refused, verdict-passed}
 use Rattle.edits.specs.Row.{entry}
 use Rattle.space.proofs.Passed.{PutPassed, put-passed}

@@ -23,10 +23,11 @@ use Rattle.rules.specs.Words.{decode, sound}
 use Rattle.rules.proofs.KeyLaws.{stored-le, co-in-range, co-co}
 use Rattle.rules.proofs.Back.{sound-facts}
 use Rattle.words.specs.Kind.{plain}
-use Rattle.refusals.specs.Verdicts.{verdict, admittedBy, boundsIn}
+use Rattle.held.specs.Verdicts.{verdict}
+use Rattle.held.specs.declared.Verdict.{Verdict}
+use Rattle.held.specs.declared.Verdict.the-variants.{Passed}
+use Rattle.refusals.specs.Admissions.{admittedBy, boundsIn}
 use Rattle.refusals.specs.declared.Admission.{Admission}
-use Rattle.refusals.specs.declared.Verdict.{Verdict}
-use Rattle.refusals.specs.declared.Verdict.the-variants.{Passed}
 use Rattle.refusals.proofs.Admission.{the-type}
 use Rattle.refusals.proofs.Tables.{verdict-refused, verdict-passed, admitted-refused, admitted-passed, bounds-admitted}
 use Rattle.search.specs.Place.{meant, place}

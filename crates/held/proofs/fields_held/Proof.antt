@@ -8,8 +8,8 @@ use mathlib.Core.Path.{_≡_, refl}
 use lib.ListN.{length, drop}
 use Rattle.rules.specs.Lists.{all}
 use borrow.Author.Needs.{needs}
-use Rattle.refusals.proofs.fields_held.Statement.{statement}
-use Rattle.refusals.proofs.fields_held.Tie as tie
+use Rattle.held.proofs.fields_held.Statement.{statement}
+use Rattle.held.proofs.fields_held.Tie as tie
 
 -- the names in a field word are held
 abbrev carried : ℕ → ℕ → ℕ → Bool

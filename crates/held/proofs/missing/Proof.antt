@@ -2,9 +2,9 @@
 use mathlib.Core.Path.{ap, sym, _∙_}
 use mathlib.Core.Bool.{not}
 use borrow.Author.Needs.{needs}
-use Rattle.refusals.proofs.Tables.{decides, leaves, passes}
-use Rattle.refusals.proofs.missing.Statement.{statement}
-use Rattle.refusals.proofs.missing.Tie as tie
+use Rattle.held.proofs.Tables.{decides, leaves, passes}
+use Rattle.held.proofs.missing.Statement.{statement}
+use Rattle.held.proofs.missing.Tie as tie
 
 returns : tie.Need-returns
 returns c = decides _ 13 _ (c .if1 .taken)

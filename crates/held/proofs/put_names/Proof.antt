@@ -10,11 +10,11 @@ use mir.Syntax.{w32}
 use Rattle.rules.specs.Names.{bit, stored}
 use Rattle.rules.specs.Fields.{namesIn}
 use Rattle.rules.specs.Matching.{pair, storedPair}
-use Rattle.refusals.proofs.Held.{held-fields, held-partitions, held-keys, only-partitions, only-key}
-use Rattle.refusals.proofs.Tables.{names-by}
+use Rattle.held.proofs.Held.{held-fields, held-partitions, held-keys, only-partitions, only-key}
+use Rattle.held.proofs.Tables.{names-by}
 use borrow.Author.Needs.{needs}
-use Rattle.refusals.proofs.put_names.Statement.{statement}
-use Rattle.refusals.proofs.put_names.Tie as tie
+use Rattle.held.proofs.put_names.Statement.{statement}
+use Rattle.held.proofs.put_names.Tie as tie
 
 -- the place of the walk where the party's words are read, by its way to the start
 abbrev words-start : tie.After-shared-slice-known4 → tie.Start

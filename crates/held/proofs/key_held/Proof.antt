@@ -4,8 +4,8 @@ use mir.Facts.{toZ-ofZ}
 use mir.Syntax.{w32}
 use Rattle.rules.specs.Names.{bit, stored}
 use borrow.Author.Needs.{needs}
-use Rattle.refusals.proofs.key_held.Statement.{statement}
-use Rattle.refusals.proofs.key_held.Tie as tie
+use Rattle.held.proofs.key_held.Statement.{statement}
+use Rattle.held.proofs.key_held.Tie as tie
 
 stored-key-requires : tie.Need-stored-key-requires
 stored-key-requires c κs = search needs

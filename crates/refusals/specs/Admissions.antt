@@ -1,25 +1,17 @@
--- What the tests of a call decide.
+-- What the first tests of a call come to, and what a look, receive or take is admitted as.
 use mathlib.Core.Bool.{Bool, true, false, not}
 use mathlib.Core.List.{List, [], _∷_}
 use mathlib.Core.Option.{Option, none, some}
 use Prim.Native.Nat.{ℕ}
 use lib.Dec.{ltb}
-use Rattle.rules.specs.Calls.{Table, firstThatApplies, badCount}
+use Rattle.rules.specs.Calls.{Table, badCount}
 use Rattle.rules.specs.Words.{sound}
+use Rattle.held.specs.declared.Verdict.{Verdict}
+use Rattle.held.specs.declared.Verdict.the-variants.{Passed, Refused}
 use Rattle.refusals.specs.declared.Admission.{Admission}
 use Rattle.refusals.specs.declared.Admission.the-variants as admission
 use Rattle.refusals.specs.declared.Begun.{Begun}
 use Rattle.refusals.specs.declared.Begun.the-variants as tests
-use Rattle.refusals.specs.declared.Verdict.{Verdict}
-use Rattle.refusals.specs.declared.Verdict.the-variants.{Passed, Refused}
-
-abbrev pub verdictOf : Option ℕ → Verdict
-verdictOf none = Passed
-verdictOf (some n) = Refused n
-
--- R1 to R8, R13, R14: the number of the first test that applies, or passed
-unfoldable pub verdict : Table → Verdict
-verdict ts = verdictOf (firstThatApplies ts)
 
 -- R1 to R3: the tests that the table of every call begins with
 unfoldable pub firstTests : List ℕ → ℕ → List ℕ → Table
