@@ -125,7 +125,7 @@ isolation g old₁ old₂ roster₁ roster₂ d₁ d₂ = rw (o₁ .words, o₂ 
 -- ---- secrecy: isolation of the others
 
 -- what holds of each call of a run, where it stands
-out-of-grasp : (g : Group) (N : Name → Type 0) (cs : List (Call (List ℕ))) (ws : List ℕ)
+pub out-of-grasp : (g : Group) (N : Name → Type 0) (cs : List (Call (List ℕ))) (ws : List ℕ)
     → ((before after : List (Call (List ℕ))) (c : Call (List ℕ)) → cs ≡ before ++ (c ∷ after)
     → byGroup g c ≡ false → unrefused (call (run ws before) c .answer) ≡ true → ¬ (CallInGrasp N c))
     → OutOfGrasp g N ws cs

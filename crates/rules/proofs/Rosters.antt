@@ -18,7 +18,7 @@ use Rattle.rules.specs.State.{State, holds, give, giveEach, everyoneHold
 use Rattle.rules.specs.Calls.{Call, put, seek, partyOf, done, Table, firstThatApplies, seekTable, table, remaining, gained, finding, serve, openedWith, opened}
 use Rattle.rules.specs.Words.{encode, decode, asked, call, refusals, openRefusals, openBy, opening}
 use Rattle.rules.specs.Runs.{run}
-use Rattle.rules.specs.Group.{Group, Reaches, CallInGrasp, unrefused, OutOfGrasp, NamesAt}
+use Rattle.rules.specs.Group.{Group, Reaches, CallInGrasp, unrefused, OutOfGrasp, NamesAt, Run, startOf}
 use Rattle.rules.specs.Claims.{Shared, OpenedWith, pairNames, usedNames}
 use Rattle.rules.specs.Rosters.{FoundWhereHeld, NamesWords, NoPartitionNoCall}
 use Rattle.rules.specs.Rosters.{HasMember, Listed, GroupNames, Avoids, CallAvoids, InDefault, DefaultNotReached}
@@ -35,7 +35,7 @@ use Rattle.rules.proofs.Alike.{member-lt}
 use Rattle.rules.proofs.WordRuns.{back, Opened, open-done}
 use Rattle.rules.proofs.Decided.{callBy, call-by, passes-table, call-leaves}
 use Rattle.rules.proofs.Demand2.{matching-rule, Found, found-by}
-use Rattle.rules.proofs.Lift.{isolation}
+use Rattle.rules.proofs.Lift.{isolation, out-of-grasp}
 use Rattle.rules.proofs.Holdings.{opening-holdings}
 
 -- ---- what a party sees
@@ -178,17 +178,14 @@ avoids-names g old roster d = go
     go (seek receiving who p t result) h = tt
     go (seek taking who p t result) h = set (p .partitions) h
 
-kept-out : (g : Group) (old roster : List ℕ) → opening old roster .answer ≡ done → (ws : List ℕ) (cs : List (Call (List ℕ)))
-    → ElsewhereAvoids g roster cs → OutOfGrasp g (NamesAt g (opening old roster .space)) ws cs
-kept-out g old roster d ws [] h = tt
-kept-out g old roster d ws (c ∷ cs) h =
-    let N : Name → Type 0 = NamesAt g (opening old roster .space) in
-    (λ e u. avoided N c (avoids-names g old roster d c (h .0 e)), kept-out g old roster d (call ws c .space) cs (h .1))
+kept-out : (g : Group) (r : Run) → ElsewhereAvoids g r → OutOfGrasp g (NamesAt g (startOf r)) (startOf r) (r .calls)
+kept-out g r h =
+    out-of-grasp g (NamesAt g (startOf r)) (r .calls) (startOf r)
+    (λ before after c e b u. avoided (NamesAt g (startOf r)) c (avoids-names g (r .old) (r .roster) (r .opens) c (h before after c e b u)))
 
 pub isolation-by-partitions : IsolationByPartitions
-isolation-by-partitions g old₁ old₂ roster₁ roster₂ d₁ d₂ same cs₁ cs₂ e a₁ a₂ =
-    isolation g old₁ old₂ roster₁ roster₂ d₁ d₂ same cs₁ cs₂ e
-    (kept-out g old₁ roster₁ d₁ (opening old₁ roster₁ .space) cs₁ a₁) (kept-out g old₂ roster₂ d₂ (opening old₂ roster₂ .space) cs₂ a₂)
+isolation-by-partitions g r₁ r₂ same e a₁ a₂ =
+    isolation g (r₁ .old) (r₂ .old) (r₁ .roster) (r₂ .roster) (r₁ .opens) (r₂ .opens) same (r₁ .calls) (r₂ .calls) e (kept-out g r₁ a₁) (kept-out g r₂ a₂)
 
 -- ---- stations as they were
 

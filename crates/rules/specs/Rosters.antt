@@ -7,7 +7,7 @@ use mathlib.Core.List.{List, _∷_, _++_, map}
 use Prim.Native.Nat.{ℕ, _+_, _^_, _≤_, _<_}
 use lib.IntN.{ℤ}
 use lib.ListN.{getD, take, drop}
-use Rattle.rules.specs.Lists.{keep, All, In}
+use Rattle.rules.specs.Lists.{keep, In}
 use Rattle.rules.specs.Names.{Name, partition, key, defaultPartition, defaultKey, commonNames, bit, withBit, heldIn}
 use Rattle.rules.specs.Partitions.{only}
 use Rattle.rules.specs.Matching.{Pair, Op, looking, receiving, taking, pairFor}
@@ -15,7 +15,7 @@ use Rattle.rules.specs.State.{State, holds, everyoneHolds}
 use Rattle.rules.specs.Calls.{Call, put, seek, partyOf, done, found, openedWith}
 use Rattle.rules.specs.Words.{encode, decode, asked, call, opening}
 use Rattle.rules.specs.Runs.{run}
-use Rattle.rules.specs.Group.{Group, member, byGroup, CallInGrasp, unrefused, NamesAt, SameHoldings, Isolated}
+use Rattle.rules.specs.Group.{Group, member, byGroup, CallInGrasp, unrefused, NamesAt, SameHoldings, Isolated, Run, startOf}
 use Rattle.rules.specs.Claims.{Iff, OldestMatch}
 
 -- ---- what a party sees
@@ -97,21 +97,20 @@ DefaultNotReached =
     (g : Group) (old roster : List ℕ) → opening old roster .answer ≡ done → ¬ (Listed g roster (partition defaultPartition))
     → OutOfReach (NamesAt g (opening old roster .space))
 
--- G7: the calls from elsewhere avoid the partitions that members' rosters list
-abbrev pub ElsewhereAvoids : Group → List ℕ → List (Call (List ℕ)) → Type 0
-ElsewhereAvoids g roster cs = All (λ c. byGroup g c ≡ false → CallAvoids (Listed g roster) c) cs
+-- G7: whatever put or take comes from elsewhere in the run and is not refused, avoids the partitions that members' rosters list
+abbrev pub ElsewhereAvoids : Group → Run → Type 0
+ElsewhereAvoids g r =
+    (before after : List (Call (List ℕ))) (c : Call (List ℕ)) → r .calls ≡ before ++ (c ∷ after)
+    → byGroup g c ≡ false → unrefused (call (run (startOf r) before) c .answer) ≡ true → CallAvoids (Listed g (r .roster)) c
 
 -- G8, G9: isolation, with a premise that can be read off the rosters and the sets that others name. For a group without partition 0,
 -- its neighbours' calls in partition 0 keep it
 abbrev pub IsolationByPartitions : Type 0
 IsolationByPartitions =
-    (g : Group) (old₁ old₂ roster₁ roster₂ : List ℕ)
-    → opening old₁ roster₁ .answer ≡ done → opening old₂ roster₂ .answer ≡ done
-    → SameHoldings g (decode (opening old₁ roster₁ .space)) (decode (opening old₂ roster₂ .space))
-    → (cs₁ cs₂ : List (Call (List ℕ)))
-    → keep (byGroup g) (map asked cs₁) ≡ keep (byGroup g) (map asked cs₂)
-    → ElsewhereAvoids g roster₁ cs₁ → ElsewhereAvoids g roster₂ cs₂
-    → Isolated g (opening old₁ roster₁ .space) (opening old₂ roster₂ .space) cs₁ cs₂
+    (g : Group) (r₁ r₂ : Run)
+    → SameHoldings g (decode (startOf r₁)) (decode (startOf r₂))
+    → keep (byGroup g) (map asked (r₁ .calls)) ≡ keep (byGroup g) (map asked (r₂ .calls))
+    → ElsewhereAvoids g r₁ → ElsewhereAvoids g r₂ → Isolated g (startOf r₁) (startOf r₂) (r₁ .calls) (r₂ .calls)
 
 -- ---- stations as they were
 

@@ -37,24 +37,15 @@ const FEWEST_LOOKS: u64 = 3_000;
 
 const CALLS: [Kind; 4] = [Kind::Put, Kind::LOOK, Kind::RECEIVE, Kind::TAKE];
 const MIXES: [Mix; 4] = [
-    mix(35, 15, 15, 8),
-    mix(84, 5, 5, 4),
-    mix(50, 8, 8, 4),
-    mix(25, 12, 12, 15),
+    Mix::of(35, 15, 15, 8),
+    Mix::of(84, 5, 5, 4),
+    Mix::of(50, 8, 8, 4),
+    Mix::of(25, 12, 12, 15),
 ];
 /// For spaces that are turned away whatever is asked.
-const UNBROKEN: Mix = mix(25, 25, 25, 0);
+const UNBROKEN: Mix = Mix::of(25, 25, 25, 0);
 /// For arguments that are mostly broken.
-const BROKEN: Mix = mix(25, 25, 25, 90);
-
-const fn mix(puts: usize, looks: usize, receives: usize, broken: usize) -> Mix {
-    Mix {
-        puts,
-        looks,
-        receives,
-        broken,
-    }
-}
+const BROKEN: Mix = Mix::of(25, 25, 25, 90);
 
 /// One part: what it does with a seed in one of its rounds.
 struct Part {

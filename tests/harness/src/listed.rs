@@ -7,44 +7,29 @@ use crate::pool::{broken_roster, Maker, Mix, Pool, ALL_PARTIES};
 use crate::report::Report;
 use crate::rng::Rng;
 use crate::space::Space;
-use crate::tally::answers_of;
+use crate::tally::{answers_of, Answers};
 use reference::names::{partition_bit, PARTIES};
 use reference::table::WORDS;
 use reference::{Reference, Variant};
-use std::collections::BTreeMap;
 
 const SEED: u64 = 4_501;
 const CONTROL_SEED: u64 = 4_502;
 const RUNS: u64 = 1_500;
 const CONTROL_RUNS: u64 = 300;
-const MIXES: [Mix; 3] = [mix(35, 15, 15), mix(84, 5, 5), mix(50, 10, 10)];
+const MIXES: [Mix; 3] = [
+    Mix::of(35, 15, 15, 10),
+    Mix::of(84, 5, 5, 10),
+    Mix::of(50, 10, 10, 10),
+];
 
-const fn mix(puts: usize, looks: usize, receives: usize) -> Mix {
-    Mix {
-        puts,
-        looks,
-        receives,
-        broken: 10,
-    }
-}
-
-/// How often each answer came.
-#[derive(Default)]
-struct Counts(BTreeMap<(Kind, u32), u64>);
-
-impl Counts {
-    /// Every answer must have come but refusal 1: the space is a table, and stays sound.
-    fn finish(&self) -> Result<String, String> {
-        let wanted = Kind::ALL.into_iter().flat_map(answers_of);
-        let missing: Vec<String> = wanted
-            .filter(|(kind, code)| *code != 101 && !self.0.contains_key(&(*kind, *code)))
-            .map(|(kind, code)| format!("{}: {}", kind.word(), answer_text(kind, code)))
-            .collect();
-        let calls: u64 = self.0.values().sum();
-        match missing.is_empty() {
-            true => Ok(format!("{calls} calls alike, every answer but refusal 1")),
-            false => Err(format!("{calls} calls, never: {}", missing.join(", "))),
-        }
+/// Every answer must have come but refusal 1: the space is a table, and stays sound.
+fn finish(answers: &Answers) -> Result<String, String> {
+    let wanted = Kind::ALL.into_iter().flat_map(answers_of);
+    let missing = answers.never(wanted.filter(|(_, code)| *code != 101));
+    let calls = answers.calls();
+    match missing.is_empty() {
+        true => Ok(format!("{calls} calls alike, every answer but refusal 1")),
+        false => Err(format!("{calls} calls, never: {}", missing.join(", "))),
     }
 }
 
@@ -102,7 +87,7 @@ impl Both<'_> {
     }
 
     /// An opening and some calls, seldom with another opening among them.
-    fn run(&mut self, rng: &mut Rng, counts: &mut Counts) -> Result<(), String> {
+    fn run(&mut self, rng: &mut Rng, answers: &mut Answers) -> Result<(), String> {
         let pool = Pool::random(rng, 4, 2);
         let maker = Maker {
             pool: &pool,
@@ -124,21 +109,21 @@ impl Both<'_> {
                 _ => maker.call(rng, self.befores.space.lent()),
             };
             let code = self.call(&call, rng)?;
-            *counts.0.entry((call.kind(), code)).or_default() += 1;
+            answers.add(call.kind(), code);
         }
         Ok(())
     }
 }
 
-/// Gives the counts, or what differs first and after how many runs.
-fn compare_runs(system: &mut dyn Space) -> Result<Counts, (u64, String)> {
+/// Gives the answers, or what differs first and after how many runs.
+fn compare_runs(system: &mut dyn Space) -> Result<Answers, (u64, String)> {
     let mut both = Both::new(system, PARTIES);
-    let mut counts = Counts::default();
+    let mut answers = Answers::default();
     for number in 0..RUNS {
-        both.run(&mut Rng::new(SEED, number), &mut counts)
+        both.run(&mut Rng::new(SEED, number), &mut answers)
             .map_err(|text| (number, format!("seed {SEED}, run {number}, {text}")))?;
     }
-    Ok(counts)
+    Ok(answers)
 }
 
 /// How many runs differ if partition 0 is listed for this many parties, fewer than all.
@@ -146,7 +131,7 @@ fn differing_runs(system: &mut dyn Space, listed: usize) -> Result<String, Strin
     let mut both = Both::new(system, listed);
     let differs = |number: &u64| {
         let mut rng = Rng::new(CONTROL_SEED, *number);
-        both.run(&mut rng, &mut Counts::default()).is_err()
+        both.run(&mut rng, &mut Answers::default()).is_err()
     };
     let differing = (0..CONTROL_RUNS).filter(differs).count();
     let text = format!("seed {CONTROL_SEED}, {differing} of {CONTROL_RUNS} runs differ");
@@ -159,8 +144,8 @@ fn differing_runs(system: &mut dyn Space, listed: usize) -> Result<String, Strin
 /// Holds a system's calls, with partition 0 listed for all, against the rules as they were; and
 /// shows that it has to be listed for all.
 pub fn check(report: &mut Report, who: &str, system: &mut dyn Space) {
-    let counts = compare_runs(system).map_err(|(_, text)| text);
-    let outcome = counts.and_then(|counts| counts.finish());
+    let answers = compare_runs(system).map_err(|(_, text)| text);
+    let outcome = answers.and_then(|answers| finish(&answers));
     report.check(
         &format!("partition 0 listed for all, {who}: held against partition 0 for everybody"),
         outcome.map(|text| format!("seed {SEED}, {RUNS} runs: {text}")),

@@ -12,11 +12,10 @@ use crate::report::Report;
 use crate::rng::Rng;
 use crate::space::Space;
 use crate::tables::{damage_at_random, damaged_table, sound_table, Damage};
-use crate::tally::answers_of;
+use crate::tally::{answers_of, Answers};
 use reference::names::{key_bit, partition_bit};
 use reference::table::{KEYS, PARTITIONS};
 use reference::{Field, Operation, Reference, Variant};
-use std::collections::BTreeMap;
 
 const SEED: u64 = 4_101;
 const CLOSED_SEED: u64 = 4_102;
@@ -110,14 +109,14 @@ pub fn some_space(rng: &mut Rng, pool: &Pool) -> (Vec<u64>, Vec<u64>) {
 /// How often each answer came, and a found name that wasn't held.
 #[derive(Default)]
 struct Counts {
-    answers: BTreeMap<u32, u64>,
+    answers: Answers,
     new_names: u64,
     of_0: partition_0::Counts,
 }
 
 impl Counts {
     fn add(&mut self, asked: &Asked, code: u32, found: &[u64]) {
-        *self.answers.entry(code).or_default() += 1;
+        self.answers.add(Kind::LOOK, code);
         let new_name = lacks_name_in(&asked.space, asked.query.party, found);
         self.new_names += u64::from(new_name);
         let call = asked.call(Operation::Look);
@@ -126,16 +125,12 @@ impl Counts {
     }
 
     fn of(&self, such: impl Fn(u32) -> bool) -> u64 {
-        let answers = self.answers.iter().filter(|(code, _)| such(**code));
-        answers.map(|(_, count)| count).sum()
+        self.answers.sum(|_, code| such(code))
     }
 
     /// Every answer that the rules make possible must have come.
     fn finish(&self) -> Result<String, String> {
-        let missing: Vec<String> = answers_of(Kind::LOOK)
-            .filter(|(_, code)| !self.answers.contains_key(code))
-            .map(|(kind, code)| answer_text(kind, code))
-            .collect();
+        let missing = self.answers.never(answers_of(Kind::LOOK));
         let text = format!(
             "{} found, {} with names not held, {} none, {} refused; {}",
             self.of(|code| (1..=8).contains(&code)),

@@ -146,6 +146,15 @@ pub struct Mix {
 }
 
 impl Mix {
+    pub const fn of(puts: usize, looks: usize, receives: usize, broken: usize) -> Mix {
+        Mix {
+            puts,
+            looks,
+            receives,
+            broken,
+        }
+    }
+
     /// The kind for a number below a hundred.
     fn kind(self, dice: usize) -> Kind {
         let looks = self.puts + self.looks;

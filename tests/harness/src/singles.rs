@@ -7,24 +7,19 @@ use crate::pool::{Maker, Mix, Pool, ALL_PARTIES};
 use crate::report::Report;
 use crate::rng::Rng;
 use crate::space::Space;
-use crate::tally::answers_of;
+use crate::tally::{answers_of, Answers};
 use reference::names::{partition_bit, partitions_of, LAST_PARTITION};
 use reference::table::{row_start, LIVE, READ_SET, TAKE_SET, WORDS};
 use reference::{Pair, Reference, Variant};
-use std::collections::{BTreeMap, BTreeSet};
+use std::collections::BTreeSet;
 
 const SEED: u64 = 4_301;
 const RUNS: u64 = 1_000;
-const MIXES: [Mix; 3] = [mix(35, 15, 15), mix(84, 5, 5), mix(50, 10, 10)];
-
-const fn mix(puts: usize, looks: usize, receives: usize) -> Mix {
-    Mix {
-        puts,
-        looks,
-        receives,
-        broken: 8,
-    }
-}
+const MIXES: [Mix; 3] = [
+    Mix::of(35, 15, 15, 8),
+    Mix::of(84, 5, 5, 8),
+    Mix::of(50, 10, 10, 8),
+];
 
 /// The same call by sets of one partition, and by the numbers of those partitions.
 struct Both {
@@ -65,7 +60,7 @@ fn pairs_of(call: &mut Call) -> Vec<&mut Pair> {
 /// How often which answer came, and which partitions were named without a refusal.
 #[derive(Default)]
 struct Counts {
-    answers: BTreeMap<(Kind, u32), u64>,
+    answers: Answers,
     partitions: BTreeSet<u64>,
     of_0: partition_0::Counts,
 }
@@ -74,7 +69,7 @@ impl Counts {
     fn add(&mut self, both: &mut Both, code: u32, held: u64) {
         let kind = both.by_sets.kind();
         self.of_0.add(&both.by_sets, code, held);
-        *self.answers.entry((kind, code)).or_default() += 1;
+        self.answers.add(kind, code);
         if !is_refusal(code) {
             let named = pairs_of(&mut both.by_numbers).into_iter();
             self.partitions.extend(named.map(|pair| pair.set));
@@ -84,23 +79,19 @@ impl Counts {
     /// No refusal by 1 can come, since the space stays sound.
     fn finish(&self) -> Result<String, String> {
         let wanted = Kind::ALL[1..].iter().copied().flat_map(answers_of);
-        let missing: Vec<String> = wanted
-            .filter(|(kind, code)| *code != 101 && !self.answers.contains_key(&(*kind, *code)))
-            .map(|(kind, code)| format!("{}: {}", kind.word(), answer_text(kind, code)))
-            .collect();
+        let missing = self.answers.never(wanted.filter(|(_, code)| *code != 101));
         let partitions = self.partitions.len();
         if !missing.is_empty() || partitions <= LAST_PARTITION as usize {
             let missing = missing.join(", ");
             return Err(format!("{partitions} partitions named, never: {missing}"));
         }
-        let all = |such: fn(u32) -> bool| -> u64 {
-            let answers = self.answers.iter();
-            let finds = answers.filter(|((kind, code), _)| *kind != Kind::Put && such(*code));
-            finds.map(|(_, count)| count).sum()
+        let all = |such: fn(u32) -> bool| {
+            let answers = &self.answers;
+            answers.sum(|kind, code| kind != Kind::Put && such(code))
         };
-        let calls: u64 = self.answers.values().sum();
         Ok(format!(
-            "{calls} calls alike, {} found, {} none, each of {partitions} partitions named, {}",
+            "{} calls alike, {} found, {} none, each of {partitions} partitions named, {}",
+            self.answers.calls(),
             all(|code| (1..=8).contains(&code)),
             all(|code| code == 0),
             self.of_0.finish()?

@@ -4,10 +4,14 @@ use crate::call::{answer_text, Call, Kind};
 use crate::pool::MOST_WORDS;
 use std::collections::{BTreeMap, BTreeSet};
 
-/// The counts, and how often some things happened that no answer tells.
+/// How often each kind of call got each answer.
+#[derive(Default)]
+pub struct Answers(BTreeMap<(Kind, u32), u64>);
+
+/// The answers, and how often some things happened that no answer tells.
 #[derive(Default)]
 pub struct Tally {
-    counts: BTreeMap<(Kind, u32), u64>,
+    answers: Answers,
     happenings: BTreeMap<&'static str, u64>,
     field_counts: BTreeSet<usize>,
     result_counts: BTreeSet<usize>,
@@ -33,10 +37,37 @@ pub fn answers_of(kind: Kind) -> impl Iterator<Item = (Kind, u32)> {
     codes.map(move |code| (kind, code))
 }
 
+impl Answers {
+    pub fn add(&mut self, kind: Kind, code: u32) {
+        *self.0.entry((kind, code)).or_default() += 1;
+    }
+
+    pub fn of(&self, kind: Kind, code: u32) -> u64 {
+        *self.0.get(&(kind, code)).unwrap_or(&0)
+    }
+
+    pub fn sum(&self, such: impl Fn(Kind, u32) -> bool) -> u64 {
+        let answers = self.0.iter().filter(|((kind, code), _)| such(*kind, *code));
+        answers.map(|(_, count)| count).sum()
+    }
+
+    pub fn calls(&self) -> u64 {
+        self.sum(|_, _| true)
+    }
+
+    /// Those of the wanted that never came.
+    pub fn never(&self, wanted: impl Iterator<Item = (Kind, u32)>) -> Vec<String> {
+        wanted
+            .filter(|(kind, code)| self.of(*kind, *code) == 0)
+            .map(|(kind, code)| format!("{}: {}", kind.word(), answer_text(kind, code)))
+            .collect()
+    }
+}
+
 impl Tally {
     pub fn count(&mut self, call: &Call, code: u32) {
         let kind = call.kind();
-        *self.counts.entry((kind, code)).or_default() += 1;
+        self.answers.add(kind, code);
         if kind != Kind::Open {
             self.field_counts.insert(call.input().len());
         }
@@ -50,16 +81,12 @@ impl Tally {
     }
 
     pub fn calls(&self) -> u64 {
-        self.counts.values().sum()
+        self.answers.calls()
     }
 
     /// How many calls of this kind were made.
     pub fn calls_of(&self, kind: Kind) -> u64 {
-        codes().map(|code| self.of(kind, code)).sum()
-    }
-
-    fn of(&self, kind: Kind, code: u32) -> u64 {
-        *self.counts.get(&(kind, code)).unwrap_or(&0)
+        self.answers.sum(|made, _| made == kind)
     }
 
     /// The table of counts, a `-` where the rules allow no such answer.
@@ -77,7 +104,7 @@ impl Tally {
             text.push_str(&format!("  {name:<12}"));
             for kind in Kind::ALL {
                 let cell = match possible(kind, code) {
-                    true => self.of(kind, code).to_string(),
+                    true => self.answers.of(kind, code).to_string(),
                     false => "-".to_string(),
                 };
                 text.push_str(&format!("{cell:>10}"));
@@ -93,14 +120,8 @@ impl Tally {
     /// Fails on a possible answer never reached, an impossible one reached, and anything of
     /// `expected` that never happened.
     pub fn check(&self, expected: &[&'static str]) -> Result<String, String> {
-        let mut missing = Vec::new();
-        for kind in Kind::ALL {
-            for code in codes() {
-                if possible(kind, code) && self.of(kind, code) == 0 {
-                    missing.push(format!("{}: {}", kind.word(), answer_text(kind, code)));
-                }
-            }
-        }
+        let wanted = Kind::ALL.into_iter().flat_map(answers_of);
+        let mut missing = self.answers.never(wanted);
         missing.extend(
             expected
                 .iter()
@@ -118,7 +139,7 @@ impl Tally {
         if !missing.is_empty() {
             return Err(format!("never reached: {}", missing.join(", ")));
         }
-        for (kind, code) in self.counts.keys() {
+        for (kind, code) in self.answers.0.keys() {
             if !possible(*kind, *code) {
                 let answer = answer_text(*kind, *code);
                 return Err(format!("{} answered {answer}", kind.word()));

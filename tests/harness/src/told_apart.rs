@@ -9,9 +9,8 @@ use crate::pool::{broken_roster, Maker, Mix, Pool, ALL_PARTIES};
 use crate::report::Report;
 use crate::rng::Rng;
 use crate::space::Space;
-use crate::tally::answers_of;
+use crate::tally::{answers_of, Answers};
 use reference::{Reference, Variant};
-use std::collections::BTreeMap;
 
 const SEED: u64 = 4_401;
 const SPACES: u64 = 40_000;
@@ -29,28 +28,21 @@ fn as_before(code: u32) -> u32 {
 /// How often each answer came.
 #[derive(Default)]
 struct Counts {
-    answers: BTreeMap<(Kind, u32), u64>,
+    answers: Answers,
     of_0: partition_0::Counts,
 }
 
 impl Counts {
-    fn of(&self, kind: Kind, code: u32) -> u64 {
-        *self.answers.get(&(kind, code)).unwrap_or(&0)
-    }
-
     /// Every answer that the rules make possible must have come.
     fn finish(&self) -> Result<String, String> {
         let wanted = Kind::ALL.into_iter().flat_map(answers_of);
-        let missing: Vec<String> = wanted
-            .filter(|answer| !self.answers.contains_key(answer))
-            .map(|(kind, code)| format!("{}: {}", kind.word(), answer_text(kind, code)))
-            .collect();
+        let missing = self.answers.never(wanted);
         if !missing.is_empty() {
             return Err(format!("never: {}", missing.join(", ")));
         }
-        let calls: u64 = self.answers.values().sum();
+        let calls = self.answers.calls();
         let told_apart = Kind::ALL[1..].iter().map(|kind| {
-            let [by_13, by_14, by_7] = FOR_NAMES.map(|code| self.of(*kind, code));
+            let [by_13, by_14, by_7] = FOR_NAMES.map(|code| self.answers.of(*kind, code));
             let word = kind.word();
             format!("{word} by 13 {by_13}, by 14 {by_14}, by 7 {by_7}")
         });
@@ -113,7 +105,7 @@ impl Both<'_> {
             };
             let held = partition_0::held_by_party(&call, self.systems.space.lent());
             let code = self.call(&call, rng)?;
-            *counts.answers.entry((call.kind(), code)).or_default() += 1;
+            counts.answers.add(call.kind(), code);
             counts.of_0.add(&call, code, held);
         }
         Ok(())
