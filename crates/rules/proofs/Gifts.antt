@@ -9,7 +9,7 @@ use native.Mathlib.Decide.{ℕ-discrete}
 use lib.ListN.{length, getD, set, length-set}
 use lib.Seq.{getD-set-same, getD-set-other}
 use Rattle.rules.specs.Lists.{In, from}
-use Rattle.rules.specs.Names.{parties, Name, partition, key, heldIn, withBit}
+use Rattle.rules.specs.Names.{parties, Name, partition, key, heldIn, withBit, setBit}
 use Rattle.rules.specs.State.{State, holds, give, giveAll, giveEach}
 use Rattle.rules.proofs.BitLaws.{bit-set, bit-self, bit-set-kept}
 
@@ -131,24 +131,24 @@ spelled (x ∷ l) at i h =
 eight-words : (l : List ℕ) → length l ≡ 8 → l ≡ map (λ i. getD l i 0) (from 0 8)
 eight-words l h = spelled l (λ i. getD l i 0) 0 (λ j. ap (λ (i : ℕ). getD l i 0) (omega arith)) ∙ ap (λ n. map (λ i. getD l i 0) (from 0 n)) h
 
+-- the words with bit c set in those of the parties, one after the other
+abbrev setEach : List ℕ → ℕ → List ℕ → List ℕ
+setEach [] c ws = ws
+setEach (who ∷ whos) c ws = setEach whos c (setBit who c ws)
+
+set-each : (c : ℕ) (ws : List ℕ) → length ws ≡ 8 → setEach parties c ws ≡ map (λ w. withBit w c) ws
+set-each c ws h = let e : ws ≡ map (λ i. getD ws i 0) (from 0 8) = eight-words ws h in ap (setEach parties c) e ∙ sym (ap (map (λ w. withBit w c)) e)
+
 -- a name given to each of the parties in turn is its bit set in all their words
 pub each-partition : (c : ℕ) (s : State) → length (s .partitions) ≡ 8
     → giveEach parties (partition c ∷ []) s ≡ record { partitions = map (λ w. withBit w c) (s .partitions); keys = s .keys; entries = s .entries }
 unfolding give
-each-partition c s h =
-    let e : s .partitions ≡ map (λ i. getD (s .partitions) i 0) (from 0 8) = eight-words (s .partitions) h in
-    let left : List ℕ → State = λ ws. giveEach parties (partition c ∷ []) (record { partitions = ws; keys = s .keys; entries = s .entries }) in
-    let right : List ℕ → State = λ ws. record { partitions = map (λ w. withBit w c) ws; keys = s .keys; entries = s .entries } in
-    ap left e ∙ sym (ap right e)
+each-partition c s h = ap (λ (ws : List ℕ). record { partitions = ws; keys = s .keys; entries = s .entries }) (set-each c (s .partitions) h)
 
 pub each-key : (k : ℕ) (s : State) → length (s .keys) ≡ 8
     → giveEach parties (key k ∷ []) s ≡ record { partitions = s .partitions; keys = map (λ w. withBit w k) (s .keys); entries = s .entries }
 unfolding give
-each-key k s h =
-    let e : s .keys ≡ map (λ i. getD (s .keys) i 0) (from 0 8) = eight-words (s .keys) h in
-    let left : List ℕ → State = λ ws. giveEach parties (key k ∷ []) (record { partitions = s .partitions; keys = ws; entries = s .entries }) in
-    let right : List ℕ → State = λ ws. record { partitions = s .partitions; keys = map (λ w. withBit w k) ws; entries = s .entries } in
-    ap left e ∙ sym (ap right e)
+each-key k s h = ap (λ (ws : List ℕ). record { partitions = s .partitions; keys = ws; entries = s .entries }) (set-each k (s .keys) h)
 
 -- the same change to a word of each of two lists
 set-alike : (l₁ l₂ : List ℕ) (f : ℕ → ℕ) (who p : ℕ) → who < length l₁ → who < length l₂

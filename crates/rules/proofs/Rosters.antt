@@ -1,4 +1,5 @@
--- A group's names by its rosters, what is out of its grasp, and an opening that lists partition 0 for everyone.
+-- What a party finds by what it holds, a group's names by its rosters, what is out of its grasp, and an opening that lists partition 0
+-- for everyone.
 use mathlib.Core.Path.{_≡_, refl, sym, ap, _∙_, subst}
 use mathlib.Core.Logic.{_⊎_, inl, inr}
 use mathlib.Core.Bool.{Bool, true, false, false≢true}
