@@ -15,6 +15,7 @@ use Rattle.rules.specs.Calls.{Table, firstThatApplies}
 use Rattle.rules.specs.Words.{decode, sound}
 use Rattle.rules.proofs.ListLaws.{bool, passed, not-false, or-right}
 use Rattle.rules.proofs.Back.{sound-facts}
+use Rattle.rules.proofs.Decided.{first-append}
 use Rattle.audit.specs.Audited.{audited}
 use Rattle.audit.specs.declared.Finding.the-variants.{Unsound, Sound}
 use denote.Enum.Declared.{tagOf}
@@ -28,19 +29,6 @@ use Rattle.refusals.specs.declared.Admission.the-variants as admission
 use Rattle.refusals.specs.declared.Begun.the-variants as tests
 
 -- ---- the tests that come first
-
-abbrev either : Option ℕ → Option ℕ → Option ℕ
-either none p = p
-either (some n) p = some n
-
-first-append : (xs ys : Table) → firstThatApplies (xs ++ ys) ≡ either (firstThatApplies xs) (firstThatApplies ys)
-first-append [] ys = refl
-first-append (x ∷ xs) ys = go (bool (x .0)) (first-append xs ys)
-  where
-    go : (x .0 ≡ true) ⊎ (x .0 ≡ false) → firstThatApplies (xs ++ ys) ≡ either (firstThatApplies xs) (firstThatApplies ys)
-        → firstThatApplies (x ∷ (xs ++ ys)) ≡ either (firstThatApplies (x ∷ xs)) (firstThatApplies ys)
-    go (inl h) again = rw h refl
-    go (inr h) again = rw h again
 
 refused-by : (o : Option ℕ) (n k : ℕ) → tests.Refused k ≡ begun o n → o ≡ some k
 unfolding begun

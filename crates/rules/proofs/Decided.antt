@@ -10,9 +10,10 @@ use Rattle.rules.specs.Lists.{All}
 use Rattle.rules.specs.Partitions.{sets}
 use Rattle.rules.specs.State.{State}
 use Rattle.rules.specs.Calls.{Call, put, seek, partyOf, refused, Table, firstThatApplies, table, serve, decided, step}
-use Rattle.rules.specs.Words.{decode, sound, asked, resultOf, Exit, exit, exitOf, onWords, call, refusals}
+use Rattle.rules.specs.Words.{decode, sound, asked, resultOf, Exit, exit, exitOf, call, refusals}
 use Rattle.rules.specs.Group.{unrefused}
 use Rattle.rules.specs.Claims.{Passes, FirstApplies}
+use Rattle.rules.specs.Earlier.{callWith}
 use Rattle.rules.proofs.ListLaws.{bool, not-false, passed}
 use Rattle.rules.proofs.Kept.{party-ok, wf-serve}
 use Rattle.rules.proofs.Back.{wf-decode, encode-decode}
@@ -25,7 +26,7 @@ callBy none ws c = exitOf (serve sets (decode ws) (asked c)) (resultOf c)
 
 -- by whatever table it is decided
 pub by-table : (ts : State → Call ℕ → Table) (ws : List ℕ) (c : Call (List ℕ))
-    → onWords (λ s c. decided (firstThatApplies (ts s c)) (serve sets s c) s) ws c
+    → callWith ts ws c
     ≡ callBy (firstThatApplies ((not (sound ws), 1) ∷ ts (decode ws) (asked c))) ws c
 by-table ts ws c = go (bool (sound ws))
   where
@@ -34,7 +35,7 @@ by-table ts ws c = go (bool (sound ws))
     sound-by h none = refl
 
     go : (sound ws ≡ true) ⊎ (sound ws ≡ false)
-        → onWords (λ s c. decided (firstThatApplies (ts s c)) (serve sets s c) s) ws c
+        → callWith ts ws c
         ≡ callBy (firstThatApplies ((not (sound ws), 1) ∷ ts (decode ws) (asked c))) ws c
     go (inl h) = rw h (sound-by h (firstThatApplies (ts (decode ws) (asked c))))
     go (inr h) = rw h refl
@@ -81,6 +82,19 @@ call-leaves P ws c before served = go (firstThatApplies (refusals ws c)) refl
     go none e = rw (passes-left ws c e) (served e)
 
 -- ---- the first number of a table
+
+abbrev pub either : Option ℕ → Option ℕ → Option ℕ
+either none p = p
+either (some n) p = some n
+
+pub first-append : (xs ys : Table) → firstThatApplies (xs ++ ys) ≡ either (firstThatApplies xs) (firstThatApplies ys)
+first-append [] ys = refl
+first-append (x ∷ xs) ys = go (bool (x .0)) (first-append xs ys)
+  where
+    go : (x .0 ≡ true) ⊎ (x .0 ≡ false) → firstThatApplies (xs ++ ys) ≡ either (firstThatApplies xs) (firstThatApplies ys)
+        → firstThatApplies (x ∷ (xs ++ ys)) ≡ either (firstThatApplies (x ∷ xs)) (firstThatApplies ys)
+    go (inl h) again = rw h refl
+    go (inr h) again = rw h again
 
 pub first-applies : (ts : Table) (n : ℕ) → firstThatApplies ts ≡ some n → FirstApplies ts n
 first-applies [] n e = let z : _≡_ {A = ℕ} 0 1 = cc in absurd (omega arith)

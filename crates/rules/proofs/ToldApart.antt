@@ -15,7 +15,8 @@ use Rattle.rules.specs.State.{State, holds, live, limitOf}
 use Rattle.rules.specs.Calls.{Call, put, seek, Answer, refused, Table, firstThatApplies, partitionsIn, keysIn, heldTests, nameTests, putTable, seekTable, table}
 use Rattle.rules.specs.Words.{decode, sound, asked, Exit}
 use Rattle.rules.specs.Group.{unrefused}
-use Rattle.rules.specs.Claims.{usedNames, tableBefore, missing, ToldApart, MissingNameToldApart}
+use Rattle.rules.specs.Claims.{usedNames}
+use Rattle.rules.specs.Earlier.{missing, withOneTest, ToldApart, MissingNameToldApart}
 use Rattle.rules.proofs.ListLaws.{clash}
 use Rattle.rules.proofs.NameTests.{apart}
 use Rattle.rules.proofs.StateRuns.{serve-unrefused}
@@ -65,7 +66,7 @@ four a b c d ts us t =
     (beside b 3 (other 3 (omega arith) (λ e. omega arith)) _ _
     (beside c 4 (other 4 (omega arith) (λ e. omega arith)) _ _ (beside d 5 (other 5 (omega arith) (λ e. omega arith)) ts us t)))
 
-table-told : (s : State) (c : Call ℕ) → Told (table sets s c) (tableBefore s c)
+table-told : (s : State) (c : Call ℕ) → Told (table sets s c) (withOneTest s c)
 unfolding putTable seekTable
 table-told s (put who r t fs) =
     four _ _ _ _ _ _ (three s who (storedPair r ∷ storedPair t ∷ []) fs _ (full (leb (limitOf s who) (live who (s .entries)))))
@@ -105,5 +106,5 @@ call-told ws c (some n) p (inr t) = rw (sym (t .0)) (same-exit (callBy (some n) 
 
 pub missing-name-told-apart : MissingNameToldApart
 missing-name-told-apart ws c =
-    rw (call-by ws c, by-table tableBefore ws c)
+    rw (call-by ws c, by-table withOneTest ws c)
     (call-told ws c _ _ (beside (not (sound ws)) 1 (other 1 (omega arith) (λ e. omega arith)) _ _ (table-told (decode ws) (asked c)) .told))

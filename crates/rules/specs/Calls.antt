@@ -49,6 +49,10 @@ badCount fs = eqb (length fs) 0 || ltb 8 (length fs)
 abbrev pub keysIn : List (Pair ℕ) → List Name
 keysIn ps = map (λ p. key (p .key)) ps
 
+-- R6: fewer result words than fields
+abbrev pub shortTest : List ℕ → ℕ → Table
+shortTest t room = (ltb room (length t), 6) ∷ []
+
 -- R13, R14, R7, by whether the partitions of pairs, their keys and the names in fields are held
 abbrev pub heldTests : Bool → Bool → Bool → Table
 heldTests partitions keys carried = (not partitions, 13) ∷ (not keys, 14) ∷ (not carried, 7) ∷ []
@@ -78,22 +82,21 @@ module _ (R : Reading) where
       ∷ (not (all putField fs), 5)
       ∷ (names ++ ((leb (limitOf s who) (live who (s .entries)), 8) ∷ []))
 
-  -- R2 to R6: the tests of a look, receive or take with that many result words, with those of names in their place
-  abbrev pub seekTests : Table → ℕ → Pair ℤ → List ℕ → ℕ → Table
-  seekTests names who p t room =
+  -- R2 to R5: the tests of a look, receive or take, before those that are left
+  abbrev pub seekTests : Table → ℕ → Pair ℤ → List ℕ → Table
+  seekTests left who p t =
       (ltb 7 who, 2)
       ∷ (badCount t, 3)
       ∷ (badPair p, 4)
       ∷ (not (all templateField t), 5)
-      ∷ (ltb room (length t), 6)
-      ∷ names
+      ∷ left
 
   -- R2 to R8, R13, R14: the tables
   unfoldable pub putTable : State → ℕ → Pair ℤ → Pair ℤ → List ℕ → Table
   putTable s who r t fs = putTests (nameTests s who (storedPair r ∷ storedPair t ∷ []) fs) s who r t fs
 
   unfoldable pub seekTable : State → ℕ → Pair ℤ → List ℕ → ℕ → Table
-  seekTable s who p t room = seekTests (nameTests s who (storedPair p ∷ []) t) who p t room
+  seekTable s who p t room = seekTests (shortTest t room ++ nameTests s who (storedPair p ∷ []) t) who p t
 
   abbrev pub table : State → Call ℕ → Table
   table s (put who r t fs) = putTable s who r t fs

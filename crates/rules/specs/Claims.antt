@@ -1,8 +1,8 @@
--- The claims of demands 1 and 2, and two comparisons: of sets with single partitions, and of the names' three refusals with the one
--- that they were. All are about the definitions that the contracts cite. Demand 3 is `Isolation`, in Group.
+-- The claims of demands 1 and 2, and a comparison of sets with single partitions. All are about the definitions that the contracts
+-- cite. Demand 3 is `Isolation`, in Group.
 use mathlib.Core.Path.{_≡_}
 use mathlib.Core.Logic.{_⊎_, _≢_}
-use mathlib.Core.Bool.{true, false, not}
+use mathlib.Core.Bool.{true, false}
 use mathlib.Core.Option.{none}
 use mathlib.Core.List.{List, [], _∷_, _++_, map}
 use Prim.Native.Nat.{ℕ, suc, _+_, _*_, _≤_, _<_}
@@ -14,9 +14,9 @@ use Rattle.rules.specs.Partitions.{only, sets, singles}
 use Rattle.rules.specs.Fields.{message, name, wildcard, field, nameWord, isBound, putField, namesIn, fieldAgrees}
 use Rattle.rules.specs.Matching.{Pair, pair, storedPair, Entry, Op, looking, receiving, taking, pairFor, matches}
 use Rattle.rules.specs.State.{State, holds, live, wrote}
-use Rattle.rules.specs.Calls.{Call, put, seek, partyOf, Answer, done, found, nothing, refused, Table, firstThatApplies, badCount, badPair}
-use Rattle.rules.specs.Calls.{partitionsIn, keysIn, putTests, seekTests, Outcome, serve, decided, opened}
-use Rattle.rules.specs.Words.{decode, sound, asked, resultOf, Exit, onWords, call, refusals, badRoster, openRefusals, opening}
+use Rattle.rules.specs.Calls.{Call, put, seek, done, found, nothing, refused, Table, firstThatApplies, badCount, badPair}
+use Rattle.rules.specs.Calls.{partitionsIn, keysIn, opened}
+use Rattle.rules.specs.Words.{decode, sound, asked, resultOf, call, refusals, badRoster, openRefusals, opening}
 use Rattle.rules.specs.Runs.{run, replies, stateReplies, untaken, ledger}
 
 -- both ways
@@ -236,6 +236,18 @@ CarriedKeyAlone =
     → (holds (decode (call ws (seek op who p t result) .space)) who (key (stored k)) ≡ true)
     × (holds (decode (call ws (seek op who p t result) .space)) who (key (stored (coKey k))) ≡ false)
 
+-- C6: the names that a call uses, by its pairs and fields: those of each pair, and those that the fields carry
+abbrev pub pairNames : Pair ℕ → List Name
+pairNames p = sets .names (p .partitions) ++ (key (p .key) ∷ [])
+
+abbrev pub usedNames : List (Pair ℕ) → List ℕ → List Name
+usedNames [] fs = namesIn fs
+usedNames (p ∷ ps) fs = pairNames p ++ usedNames ps fs
+
+abbrev pub callNames : Call ℕ → List Name
+callNames (put who r t fs) = usedNames (storedPair r ∷ storedPair t ∷ []) fs
+callNames (seek op who p t room) = usedNames (storedPair p ∷ []) t
+
 -- C6, R13: the names of a set are held exactly if every partition in it is
 abbrev pub SetHeld : Type 0
 SetHeld =
@@ -270,46 +282,3 @@ abbrev pub OnePartitionEach : Type 0
 OnePartitionEach =
     (old roster : List ℕ) → opening old roster .answer ≡ done → (cs : List (Call (List ℕ))) → All NamesSingles cs
     → replies (λ c. true) (opening old roster .space) (map withSets cs) ≡ stateReplies singles (λ c. true) (opened roster) (map asked cs)
-
--- ---- which name is missing
-
--- C6: the names that a call uses, by its pairs and fields: those of each pair, and those that the fields carry
-abbrev pub pairNames : Pair ℕ → List Name
-pairNames p = sets .names (p .partitions) ++ (key (p .key) ∷ [])
-
-abbrev pub usedNames : List (Pair ℕ) → List ℕ → List Name
-usedNames [] fs = namesIn fs
-usedNames (p ∷ ps) fs = pairNames p ++ usedNames ps fs
-
-abbrev pub callNames : Call ℕ → List Name
-callNames (put who r t fs) = usedNames (storedPair r ∷ storedPair t ∷ []) fs
-callNames (seek op who p t room) = usedNames (storedPair p ∷ []) t
-
--- R7 as it was before R13 and R14: one test of all the names that a call uses
-abbrev pub oneTest : State → Call ℕ → Table
-oneTest s c = (not (all (holds s (partyOf c)) (callNames c)), 7) ∷ []
-
--- the table and the call as they were, with that test in the place of the three
-abbrev pub tableBefore : State → Call ℕ → Table
-tableBefore s (put who r t fs) = putTests sets (oneTest s (put who r t fs)) s who r t fs
-tableBefore s (seek op who p t room) = seekTests sets (oneTest s (seek op who p t room)) who p t room
-
-abbrev pub stepBefore : State → Call ℕ → Outcome
-stepBefore s c = decided (firstThatApplies (tableBefore s c)) (serve sets s c) s
-
-abbrev pub callBefore : List ℕ → Call (List ℕ) → Exit
-callBefore ws c = onWords stepBefore ws c
-
--- R13, R14, R7: the answers that say which name is missing
-abbrev pub missing : List Answer
-missing = refused 13 ∷ refused 14 ∷ refused 7 ∷ []
-
--- one of these exactly where it was 7, any other answer as it was, and every word
-pub record ToldApart (now before : Exit) : Type 0 where
-  pub missingName : Iff (In (now .answer) missing) (before .answer ≡ refused 7)
-  pub others : ¬ (In (now .answer) missing) → now .answer ≡ before .answer
-  pub space : now .space ≡ before .space
-  pub result : now .result ≡ before .result
-
-abbrev pub MissingNameToldApart : Type 0
-MissingNameToldApart = (ws : List ℕ) (c : Call (List ℕ)) → ToldApart (call ws c) (callBefore ws c)

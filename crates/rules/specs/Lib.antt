@@ -9,5 +9,6 @@ pub mod Words
 pub mod Runs
 pub mod Group
 pub mod Claims
+pub mod Earlier
 pub mod Rosters
 pub mod Cases
