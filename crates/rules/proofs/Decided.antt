@@ -1,10 +1,10 @@
 -- A call on words by the first test of its table that applies: the law that the claims go by.
-use mathlib.Core.Path.{_≡_, refl, ap, ap₂, _∙_}
+use mathlib.Core.Path.{_≡_, refl, ap, ap₂, _∙_, subst}
 use mathlib.Core.Logic.{_⊎_, inl, inr}
 use mathlib.Core.Bool.{Bool, true, false, not, false≢true}
 use mathlib.Core.Option.{Option, none, some}
 use mathlib.Core.List.{List, [], _∷_, _++_}
-use Prim.Native.Nat.{ℕ, _<_}
+use Prim.Native.Nat.{ℕ, _≤_, _<_}
 use native.Mathlib.Omega.{arith}
 use Rattle.rules.specs.Lists.{All}
 use Rattle.rules.specs.Partitions.{sets}
@@ -95,6 +95,14 @@ first-append (x ∷ xs) ys = go (bool (x .0)) (first-append xs ys)
         → firstThatApplies (x ∷ (xs ++ ys)) ≡ either (firstThatApplies (x ∷ xs)) (firstThatApplies ys)
     go (inl h) again = rw h refl
     go (inr h) again = rw h again
+
+pub first-within : (most : ℕ) (ts : Table) (n : ℕ) → All (λ t. t .1 ≤ most) ts → firstThatApplies ts ≡ some n → n ≤ most
+first-within most [] n h e = let z : _≡_ {A = ℕ} 0 1 = cc in absurd (omega arith)
+first-within most (t ∷ ts) n h e = go (bool (t .0)) (first-within most ts n (h .1))
+  where
+    go : (t .0 ≡ true) ⊎ (t .0 ≡ false) → (firstThatApplies ts ≡ some n → n ≤ most) → n ≤ most
+    go (inl b) r = let e′ : some (t .1) ≡ some n = rw b at e in let q : t .1 ≡ n = cc in subst (λ (k : ℕ). k ≤ most) q (h .0)
+    go (inr b) r = r (rw b at e)
 
 pub first-applies : (ts : Table) (n : ℕ) → firstThatApplies ts ≡ some n → FirstApplies ts n
 first-applies [] n e = let z : _≡_ {A = ℕ} 0 1 = cc in absurd (omega arith)

@@ -38,7 +38,7 @@ passed-holds s (put who r t fs) h =
     let a = passed (putTable sets s who r t fs) h .1 .1 .1 .1 in
     all-used (holds s who) (storedPair r ∷ storedPair t ∷ []) fs (a .0) (a .1 .0) (a .1 .1 .0)
 passed-holds s (seek op who p t room) h =
-    let a = passed (seekTable sets s who p t room) h .1 .1 .1 .1 .1 in
+    let a = passed (seekTable sets s who p t room) h .1 .1 .1 .1 in
     all-used (holds s who) (storedPair p ∷ []) t (a .0) (a .1 .0) (a .1 .1 .0)
 
 passed-range : (s : State) (who : ℕ) (r t : Pair ℤ) (fs : List ℕ) → firstThatApplies (putTable sets s who r t fs) ≡ none

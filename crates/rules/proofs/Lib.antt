@@ -21,6 +21,7 @@ pub mod Decided
 pub mod Lift
 pub mod ToldApart
 pub mod Demand1
+pub mod ShortResults
 pub mod Demand2
 pub mod Looks
 pub mod Holdings

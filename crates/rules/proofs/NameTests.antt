@@ -1,15 +1,19 @@
--- The three tests of names: together they are the one test of all the names that a call uses.
-use mathlib.Core.Path.{_≡_, refl}
+-- The three tests of names: together they are the one test of all the names that a call uses, and what they say follows from it.
+use mathlib.Core.Path.{_≡_, refl, ap}
+use mathlib.Core.Logic.{inl, inr}
 use mathlib.Core.Bool.{Bool, true, false, not, _&&_}
+use mathlib.Core.Option.{Option, none, some}
 use mathlib.Core.List.{List, [], _∷_}
 use Prim.Native.Nat.{ℕ}
-use Rattle.rules.specs.Lists.{all}
+use Rattle.rules.specs.Lists.{all, In}
 use Rattle.rules.specs.Names.{Name, key}
 use Rattle.rules.specs.Partitions.{sets}
 use Rattle.rules.specs.Fields.{namesIn}
 use Rattle.rules.specs.Matching.{Pair}
-use Rattle.rules.specs.Calls.{partitionsIn, keysIn}
+use Rattle.rules.specs.State.{State, holds}
+use Rattle.rules.specs.Calls.{refused, firstThatApplies, partitionsIn, keysIn, heldTests, nameTests}
 use Rattle.rules.specs.Claims.{pairNames, usedNames}
+use Rattle.rules.specs.Earlier.{missing}
 use Rattle.rules.proofs.ListLaws.{not-false}
 use Rattle.rules.proofs.Loops.{all-append}
 
@@ -38,3 +42,28 @@ module _ (h : Name → Bool) where
       → not (all h (namesIn fs)) ≡ false → all h (usedNames ps fs) ≡ true
   all-used ps fs a k f =
       rw (apart ps fs, not-false (all h (partitionsIn sets ps)) a, not-false (all h (keysIn ps)) k, not-false (all h (namesIn fs)) f) refl
+
+-- R13, R14, R7
+abbrev pub numbers : List ℕ
+numbers = 13 ∷ 14 ∷ 7 ∷ []
+
+pub refused-in : (n : ℕ) → In n numbers → In (refused n) missing
+refused-in n (inl e) = inl (ap refused e)
+refused-in n (inr (inl e)) = inr (inl (ap refused e))
+refused-in n (inr (inr (inl e))) = inr (inr (inl (ap refused e)))
+
+-- what the three say, by whether all names are held: nothing, or one of their numbers
+abbrev pub NamesSay : Bool → Option ℕ → Type 0
+NamesSay true o = o ≡ none
+NamesSay false o = (n : ℕ) × ((o ≡ some n) × In n numbers)
+
+pub names-say : (s : State) (who : ℕ) (ps : List (Pair ℕ)) (fs : List ℕ)
+    → NamesSay (all (holds s who) (usedNames ps fs)) (firstThatApplies (nameTests sets s who ps fs))
+names-say s who ps fs =
+    rw (apart (holds s who) ps fs) (go (all (holds s who) (partitionsIn sets ps)) (all (holds s who) (keysIn ps)) (all (holds s who) (namesIn fs)))
+  where
+    go : (a k f : Bool) → NamesSay (a && (k && f)) (firstThatApplies (heldTests a k f))
+    go false k f = (13, (refl, inl refl))
+    go true false f = (14, (refl, inr (inl refl)))
+    go true true false = (7, (refl, inr (inr (inl refl))))
+    go true true true = refl

@@ -1,31 +1,31 @@
 -- Which name is missing: where the table with one test of all names says 7, the call says 13, 14 or 7, and elsewhere it says the same.
 use mathlib.Core.Path.{_≡_, refl, sym, ap}
 use mathlib.Core.Logic.{_⊎_, inl, inr}
-use mathlib.Core.Bool.{Bool, true, false, not, _&&_}
+use mathlib.Core.Bool.{Bool, true, false, not}
 use mathlib.Core.Option.{Option, none, some}
 use mathlib.Core.List.{List, [], _∷_, _++_}
 use Prim.Native.Nat.{ℕ, _≤_}
 use native.Mathlib.Omega.{arith}
-use lib.Dec.{leb}
+use lib.Dec.{leb, ltb}
+use lib.ListN.{length}
 use Rattle.rules.specs.Lists.{all, In}
 use Rattle.rules.specs.Partitions.{sets}
-use Rattle.rules.specs.Fields.{namesIn}
 use Rattle.rules.specs.Matching.{Pair, storedPair}
 use Rattle.rules.specs.State.{State, holds, live, limitOf}
-use Rattle.rules.specs.Calls.{Call, put, seek, Answer, refused, Table, firstThatApplies, partitionsIn, keysIn, heldTests, nameTests, putTable, seekTable, table}
+use Rattle.rules.specs.Calls.{Call, put, seek, Answer, refused, Table, firstThatApplies, nameTests, putTable, seekTable, table}
 use Rattle.rules.specs.Words.{decode, sound, asked, Exit}
 use Rattle.rules.specs.Group.{unrefused}
 use Rattle.rules.specs.Claims.{usedNames}
 use Rattle.rules.specs.Earlier.{missing, withOneTest, ToldApart, MissingNameToldApart}
 use Rattle.rules.proofs.ListLaws.{clash}
-use Rattle.rules.proofs.NameTests.{apart}
+use Rattle.rules.proofs.NameTests.{numbers, refused-in, NamesSay, names-say}
 use Rattle.rules.proofs.StateRuns.{serve-unrefused}
-use Rattle.rules.proofs.Decided.{callBy, by-table, call-by}
+use Rattle.rules.proofs.Decided.{callBy, by-table, call-by, first-append}
 
 -- R13, R14, R7: the test that applies first, if there is one, is of names
 abbrev OfNames : Option ℕ → Type 0
 OfNames none = ⊥
-OfNames (some n) = In n (13 ∷ 14 ∷ 7 ∷ [])
+OfNames (some n) = In n numbers
 
 -- what a table says, by what the one before said: a test of names for its 7, or the same and no test of names
 record Told (ts us : Table) : Type 0 where
@@ -45,18 +45,16 @@ beside false n unnamed ts us t = record { told = t .told }
 -- the three tests, and the one, before tests that are not of names
 three : (s : State) (who : ℕ) (ps : List (Pair ℕ)) (fs : List ℕ) (ts : Table) → ¬ (OfNames (firstThatApplies ts))
     → Told (nameTests sets s who ps fs ++ ts) ((not (all (holds s who) (usedNames ps fs)), 7) ∷ ts)
-three s who ps fs ts unnamed =
-    rw (apart (holds s who) ps fs) (go (all (holds s who) (partitionsIn sets ps)) (all (holds s who) (keysIn ps)) (all (holds s who) (namesIn fs)))
+three s who ps fs ts unnamed = go (all (holds s who) (usedNames ps fs)) (names-say s who ps fs)
   where
-    go : (a k f : Bool) → Told (heldTests a k f ++ ts) ((not (a && (k && f)), 7) ∷ ts)
-    go false k f = record { told = inl (inl refl, refl) }
-    go true false f = record { told = inl (inr (inl refl), refl) }
-    go true true false = record { told = inl (inr (inr (inl refl)), refl) }
-    go true true true = record { told = inr (refl, unnamed) }
+    go : (b : Bool) → NamesSay b (firstThatApplies (nameTests sets s who ps fs)) → Told (nameTests sets s who ps fs ++ ts) ((not b, 7) ∷ ts)
+    go true say = record { told = rw (first-append (nameTests sets s who ps fs) ts, say) (inr (refl, unnamed)) }
+    go false say = record { told = rw (first-append (nameTests sets s who ps fs) ts, say .1 .0) (inl (say .1 .1, refl)) }
 
-full : (b : Bool) → ¬ (OfNames (firstThatApplies ((b, 8) ∷ [])))
-full true = other 8 (omega arith) (λ e. omega arith)
-full false = λ n. n
+-- R6, R8: the test that comes after them
+last : (b : Bool) (n : ℕ) → ¬ (OfNames (some n)) → ¬ (OfNames (firstThatApplies ((b, n) ∷ [])))
+last true n unnamed = unnamed
+last false n unnamed = λ i. i
 
 -- R2 to R5: the tests that come first in the tables of every call
 four : (a b c d : Bool) (ts us : Table) → Told ts us
@@ -69,18 +67,13 @@ four a b c d ts us t =
 table-told : (s : State) (c : Call ℕ) → Told (table sets s c) (withOneTest s c)
 unfolding putTable seekTable
 table-told s (put who r t fs) =
-    four _ _ _ _ _ _ (three s who (storedPair r ∷ storedPair t ∷ []) fs _ (full (leb (limitOf s who) (live who (s .entries)))))
+    four _ _ _ _ _ _ (three s who (storedPair r ∷ storedPair t ∷ []) fs _ (last (leb (limitOf s who) (live who (s .entries))) 8 (other 8 (omega arith) (λ e. omega arith))))
 table-told s (seek op who p t room) =
-    four _ _ _ _ _ _ (beside _ 6 (other 6 (omega arith) (λ e. omega arith)) _ _ (three s who (storedPair p ∷ []) t [] (λ n. n)))
+    four _ _ _ _ _ _ (three s who (storedPair p ∷ []) t _ (last (ltb room (length t)) 6 (other 6 (omega arith) (λ e. omega arith))))
 
 -- ---- a call
 
-refused-in : (n : ℕ) → In n (13 ∷ 14 ∷ 7 ∷ []) → In (refused n) missing
-refused-in n (inl e) = inl (ap refused e)
-refused-in n (inr (inl e)) = inr (inl (ap refused e))
-refused-in n (inr (inr (inl e))) = inr (inr (inl (ap refused e)))
-
-number-in : (n : ℕ) → In (refused n) missing → In n (13 ∷ 14 ∷ 7 ∷ [])
+number-in : (n : ℕ) → In (refused n) missing → In n numbers
 number-in n (inl e) = inl cc
 number-in n (inr (inl e)) = inr (inl cc)
 number-in n (inr (inr (inl e))) = inr (inr (inl cc))

@@ -96,7 +96,7 @@ module _ (R : Reading) where
   putTable s who r t fs = putTests (nameTests s who (storedPair r ∷ storedPair t ∷ []) fs) s who r t fs
 
   unfoldable pub seekTable : State → ℕ → Pair ℤ → List ℕ → ℕ → Table
-  seekTable s who p t room = seekTests (shortTest t room ++ nameTests s who (storedPair p ∷ []) t) who p t
+  seekTable s who p t room = seekTests (nameTests s who (storedPair p ∷ []) t ++ shortTest t room) who p t
 
   abbrev pub table : State → Call ℕ → Table
   table s (put who r t fs) = putTable s who r t fs

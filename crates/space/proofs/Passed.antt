@@ -44,7 +44,7 @@ seek-passed ws who p t room e =
       party = omega arith;
       few = few-passed t (r .1 .1 .0);
       range = pair-in-range p (r .1 .1 .1 .0);
-      fits = ltb-false room (length t) (r .1 .1 .1 .1 .1 .0);
+      fits = ltb-false room (length t) (r .1 .1 .1 .1 .1 .1 .1 .1 .0);
     }
 
 pub record PutPassed (ws : List ℕ) (r t : Pair ℤ) (fs : List ℕ) : Type 0 where

@@ -1,29 +1,20 @@
 -- Every answer of a call is small: at most 8 fields, and a refusal of at most 14.
 use Prim.Native.Nat.{ℕ, _≤_}
-use mathlib.Core.Path.{_≡_, refl, subst}
-use mathlib.Core.Logic.{_⊎_, inl, inr}
-use mathlib.Core.Bool.{Bool, true, false}
+use mathlib.Core.Path.{_≡_, refl}
+use mathlib.Core.Bool.{Bool}
 use mathlib.Core.Option.{Option, none, some}
-use mathlib.Core.List.{List, [], _∷_}
+use mathlib.Core.List.{List}
 use native.Mathlib.Omega.{arith}
 use Rattle.rules.specs.Lists.{first, All}
 use Rattle.rules.specs.Partitions.{sets}
 use Rattle.rules.specs.Matching.{storedPair, Entry, matches}
-use Rattle.rules.specs.Calls.{Call, put, seek, Table, firstThatApplies, putTable, seekTable, remaining, finding, serve}
+use Rattle.rules.specs.Calls.{Call, put, seek, firstThatApplies, putTable, seekTable, remaining, finding, serve}
 use Rattle.rules.specs.Words.{decode, asked, call, refusals, openRefusals, openBy, opening}
-use Rattle.rules.proofs.ListLaws.{bool, first-All}
+use Rattle.rules.proofs.ListLaws.{first-All}
 use Rattle.rules.proofs.Rows.{EntryOk}
 use Rattle.rules.proofs.Back.{wf-decode}
-use Rattle.rules.proofs.Decided.{callBy, call-by, passes-sound}
+use Rattle.rules.proofs.Decided.{callBy, call-by, passes-sound, first-within}
 use Rattle.space.specs.Answers.{Small}
-
-numbers-small : (ts : Table) (n : ℕ) → All (λ t. t .1 ≤ 14) ts → firstThatApplies ts ≡ some n → n ≤ 14
-numbers-small [] n h e = let z : _≡_ {A = ℕ} 0 1 = cc in absurd (omega arith)
-numbers-small (t ∷ ts) n h e = go (bool (t .0)) (numbers-small ts n (h .1))
-  where
-    go : (t .0 ≡ true) ⊎ (t .0 ≡ false) → (firstThatApplies ts ≡ some n → n ≤ 14) → n ≤ 14
-    go (inl b) r = let e′ : some (t .1) ≡ some n = rw b at e in let q : t .1 ≡ n = cc in subst (λ (k : ℕ). k ≤ 14) q (h .0)
-    go (inr b) r = r (rw b at e)
 
 table-small : (ws : List ℕ) (c : Call (List ℕ)) → All (λ t. t .1 ≤ 14) (refusals ws c)
 unfolding putTable seekTable
@@ -47,7 +38,7 @@ call-small ws c = rw (call-by ws c) (go (firstThatApplies (refusals ws c)) refl)
         (first (matches sets op (storedPair p) t) (decode ws .entries)) refl (decode ws) op who (remaining op (matches sets op (storedPair p) t) (decode ws .entries))
 
     go : (o : Option ℕ) → firstThatApplies (refusals ws c) ≡ o → Small (callBy o ws c .answer)
-    go (some n) e = numbers-small (refusals ws c) n (table-small ws c) e
+    go (some n) e = first-within 14 (refusals ws c) n (table-small ws c) e
     go none e = served-small c e
 
 pub opening-small : (ws roster : List ℕ) → Small (opening ws roster .answer)
@@ -55,5 +46,5 @@ unfolding opening
 opening-small ws roster = go (firstThatApplies (openRefusals ws roster)) refl
   where
     go : (o : Option ℕ) → firstThatApplies (openRefusals ws roster) ≡ o → Small (openBy o ws roster .answer)
-    go (some n) e = numbers-small (openRefusals ws roster) n (omega arith, (omega arith, tt)) e
+    go (some n) e = first-within 14 (openRefusals ws roster) n (omega arith, (omega arith, tt)) e
     go none e = tt

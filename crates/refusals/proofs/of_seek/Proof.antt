@@ -20,10 +20,10 @@ use Rattle.words.specs.Kind.{plain}
 use Rattle.held.specs.Verdicts.{verdict}
 use Rattle.held.specs.declared.Verdict.{Verdict}
 use Rattle.held.specs.declared.Verdict.the-variants.{Refused}
-use Rattle.held.proofs.Tables.{decides, leaves}
-use Rattle.refusals.specs.Admissions.{firstTests, refusalIn, admittedBy}
+use Rattle.held.proofs.Tables.{decides, leaves, passes}
+use Rattle.refusals.specs.Admissions.{firstTests, refusalIn, admittedAs, admittedBy}
 use Rattle.refusals.specs.declared.Admission.{Admission}
-use Rattle.refusals.proofs.Tables.{first-decides, first-leaves, live-by, first-passed}
+use Rattle.refusals.proofs.Tables.{first-decides, first-leaves, live-by, first-passed, begin-decides, begin-leaves}
 use borrow.Author.Needs.{needs}
 use Rattle.refusals.proofs.of_seek.Statement.{statement}
 use Rattle.refusals.proofs.of_seek.Tie as tie
@@ -48,7 +48,13 @@ abbrev fields-pair : tie.After-fields-ok → tie.Else1
 fields-pair c = plain-pair (c .before)
 
 abbrev names-fields : tie.After-seek-names → tie.Else2
-names-fields c = c .before .before
+names-fields c = c .before
+
+abbrev refused-names : tie.After-known-told → tie.After-seek-names
+refused-names c = c .before .before .before
+
+abbrev passed-names : tie.After-enum-told3 → tie.After-seek-names
+passed-names c = c .before .before
 
 abbrev begun-start : tie.After-enum-told → tie.Start
 begun-start c = tests-start (begun-tests c)
@@ -65,6 +71,9 @@ names-start c = fields-start (names-fields c .before)
 -- the tests of the call's names by its key, and its table
 abbrev namesBy : tie.Start → ℤ → Table
 namesBy s k = let a = s .args in nameTests sets (decode (a .space .now)) (a .party) (storedPair (pair (a .partitions) k) ∷ []) (a .template .now)
+
+abbrev names : tie.Start → Table
+names s = namesBy s (s .args .key)
 
 whole : tie.Start → Table
 whole s =
@@ -101,12 +110,16 @@ past-5 : (c : tie.Else2) → Past 5 (fields-start (c .before))
 unfolding whole seekTable
 past-5 c v e = past-4 (fields-pair (c .before)) v (leaves _ 5 _ v (ap not (sym (c .before .fields-ok .ensures)) ∙ c .if2 .left) e)
 
-past-6 : (c : tie.Else3) → Past 6 (fields-start (c .before .before))
-unfolding whole seekTable
-past-6 c v e = past-5 (c .before) v (leaves _ 6 _ v (le-ltb _ _ (c .if3 .left)) e)
-
-names-are : (c : tie.After-seek-names) → c .seek-names .result ≡ verdict (namesBy (names-start c) (names-start c .args .key))
+names-are : (c : tie.After-seek-names) → c .seek-names .result ≡ verdict (names (names-start c))
 names-are c = let s = names-start c in c .seek-names .ensures ∙ ap (λ (k : ℤ). verdict (namesBy s k)) (toZ-ofZ {w = w32} (s .fits .key))
+
+-- past the tests of names
+past-8 : (c : tie.After-enum-told3) → Past 8 (names-start (passed-names c))
+unfolding whole seekTable
+past-8 c v e =
+    let s = names-start (passed-names c) in
+    past-5 (names-fields (passed-names c)) v
+    (begin-leaves (names s) (drop 8 (whole s)) v (sym (c .enum-told3 .given .1) ∙ names-are (passed-names c)) e)
 
 first-tests-requires : tie.Need-first-tests-requires
 first-tests-requires c κs = search needs
@@ -148,29 +161,42 @@ returns-3 c =
     ap (admits (fields-start (c .before)))
     (past-4 (fields-pair (c .before)) (Refused 5) (decides _ 5 _ (ap not (sym (c .before .fields-ok .ensures)) ∙ c .if2 .taken)))
 
-returns-4 : tie.Need-returns-4
-unfolding whole seekTable
-returns-4 c = ap (admits (fields-start (c .before .before))) (past-5 (c .before) (Refused 6) (decides _ 6 _ (lt-ltb _ _ (c .if3 .taken))))
-
 seek-names-requires : tie.Need-seek-names-requires
 seek-names-requires c κs =
-    let pair-test = fields-pair (c .before .before) in
+    let pair-test = fields-pair (c .before) in
     let s = pair-start (pair-test .before) in
     let good : badPair sets (pair (s .args .partitions) (s .args .key)) ≡ false = pair-is (pair-test .before) ∙ pair-test .if1 .left in
     let f = first-passed _ _ _ (begun-is (pair-begun (pair-test .before))) in
     (f .0, f .1, ap keyInRange (toZ-ofZ {w = w32} (s .fits .key)) ∙ pair-in-range (pair (s .args .partitions) (s .args .key)) good, f .2)
 
-admitted-requires : tie.Need-admitted-requires
-admitted-requires c κs = search needs
+enum-known-names : tie.Need-enum-known-names
+enum-known-names c = search needs
+
+returns-4 : tie.Need-returns-4
+unfolding whole seekTable
+returns-4 c =
+    let at = refused-names c in
+    let s = names-start at in
+    ap (admits s) (past-5 (names-fields at) _ (begin-decides (names s) (drop 8 (whole s)) _ (sym (c .before .names .given .1) ∙ names-are at)))
+
+enum-told-3 : tie.Need-enum-told-3
+enum-told-3 c = search needs
 
 returns-5 : tie.Need-returns-5
 unfolding whole seekTable
-returns-5 c =
-    let names = c .before in
-    let fields = names-fields names .before in
+returns-5 c = ap (admits (names-start (passed-names (c .before)))) (past-8 (c .before) (Refused 6) (decides _ 6 _ (lt-ltb _ _ (c .if3 .taken))))
+
+admitted-requires : tie.Need-admitted-requires
+admitted-requires c κs = search needs
+
+returns-6 : tie.Need-returns-6
+unfolding whole seekTable
+returns-6 c =
+    let told = c .before .before in
+    let at = passed-names told in
     c .admitted .ensures
-    ∙ ap (admittedBy (names .seek-names .result)) (fields .before .plain-fields .ensures)
-    ∙ ap (admits (names-start names)) (past-6 (names .before) _ (names-are names))
+    ∙ ap admittedAs (names-fields at .before .before .plain-fields .ensures)
+    ∙ ap (admits (names-start at)) (past-8 told _ (leaves _ 6 _ _ (le-ltb _ _ (c .before .if3 .left)) passes))
 
 pub of-seek-spec : {M : Type 1} → statement M
 of-seek-spec =
@@ -186,7 +212,10 @@ of-seek-spec =
     plain-fields-requires
     fields-ok-requires
     returns-3
-    returns-4
     seek-names-requires
+    enum-known-names
+    returns-4
+    enum-told-3
+    returns-5
     admitted-requires
-    returns-5)
+    returns-6)
