@@ -15,7 +15,7 @@ use Rattle.rules.specs.Calls.{Table, firstThatApplies}
 use Rattle.rules.specs.Words.{decode, sound}
 use Rattle.rules.proofs.ListLaws.{bool, passed, not-false, or-right}
 use Rattle.rules.proofs.Back.{sound-facts}
-use Rattle.rules.proofs.Decided.{first-append}
+use Rattle.rules.proofs.Tables.{first-append}
 use Rattle.audit.specs.Audited.{audited}
 use Rattle.audit.specs.declared.Finding.the-variants.{Unsound, Sound}
 use denote.Enum.Declared.{tagOf}

@@ -1,18 +1,16 @@
 -- A call on words by the first test of its table that applies: the law that the claims go by.
-use mathlib.Core.Path.{_≡_, refl, ap, ap₂, _∙_, subst}
+use mathlib.Core.Path.{_≡_, refl, _∙_}
 use mathlib.Core.Logic.{_⊎_, inl, inr}
-use mathlib.Core.Bool.{Bool, true, false, not, false≢true}
+use mathlib.Core.Bool.{true, false, not, false≢true}
 use mathlib.Core.Option.{Option, none, some}
-use mathlib.Core.List.{List, [], _∷_, _++_}
-use Prim.Native.Nat.{ℕ, _≤_, _<_}
-use native.Mathlib.Omega.{arith}
-use Rattle.rules.specs.Lists.{All}
+use mathlib.Core.List.{List, _∷_}
+use Prim.Native.Nat.{ℕ, _<_}
 use Rattle.rules.specs.Partitions.{sets}
 use Rattle.rules.specs.State.{State}
 use Rattle.rules.specs.Calls.{Call, put, seek, partyOf, refused, Table, firstThatApplies, table, serve, decided, step}
 use Rattle.rules.specs.Words.{decode, sound, asked, resultOf, Exit, exit, exitOf, call, refusals}
 use Rattle.rules.specs.Group.{unrefused}
-use Rattle.rules.specs.Claims.{Passes, FirstApplies}
+use Rattle.rules.specs.Claims.{Passes}
 use Rattle.rules.specs.Earlier.{callWith}
 use Rattle.rules.proofs.ListLaws.{bool, not-false, passed}
 use Rattle.rules.proofs.Kept.{party-ok, wf-serve}
@@ -80,46 +78,3 @@ call-leaves P ws c before served = go (firstThatApplies (refusals ws c)) refl
     go : (o : Option ℕ) → firstThatApplies (refusals ws c) ≡ o → P (decode (call ws c .space))
     go (some n) e = rw (call-by ws c, e) before
     go none e = rw (passes-left ws c e) (served e)
-
--- ---- the first number of a table
-
-abbrev pub either : Option ℕ → Option ℕ → Option ℕ
-either none p = p
-either (some n) p = some n
-
-pub first-append : (xs ys : Table) → firstThatApplies (xs ++ ys) ≡ either (firstThatApplies xs) (firstThatApplies ys)
-first-append [] ys = refl
-first-append (x ∷ xs) ys = go (bool (x .0)) (first-append xs ys)
-  where
-    go : (x .0 ≡ true) ⊎ (x .0 ≡ false) → firstThatApplies (xs ++ ys) ≡ either (firstThatApplies xs) (firstThatApplies ys)
-        → firstThatApplies (x ∷ (xs ++ ys)) ≡ either (firstThatApplies (x ∷ xs)) (firstThatApplies ys)
-    go (inl h) again = rw h refl
-    go (inr h) again = rw h again
-
-pub first-within : (most : ℕ) (ts : Table) (n : ℕ) → All (λ t. t .1 ≤ most) ts → firstThatApplies ts ≡ some n → n ≤ most
-first-within most [] n h e = let z : _≡_ {A = ℕ} 0 1 = cc in absurd (omega arith)
-first-within most (t ∷ ts) n h e = go (bool (t .0)) (first-within most ts n (h .1))
-  where
-    go : (t .0 ≡ true) ⊎ (t .0 ≡ false) → (firstThatApplies ts ≡ some n → n ≤ most) → n ≤ most
-    go (inl b) r = let e′ : some (t .1) ≡ some n = rw b at e in let q : t .1 ≡ n = cc in subst (λ (k : ℕ). k ≤ most) q (h .0)
-    go (inr b) r = r (rw b at e)
-
-pub first-applies : (ts : Table) (n : ℕ) → firstThatApplies ts ≡ some n → FirstApplies ts n
-first-applies [] n e = let z : _≡_ {A = ℕ} 0 1 = cc in absurd (omega arith)
-first-applies (t ∷ ts) n e = go (bool (t .0)) (first-applies ts n)
-  where
-    go : (t .0 ≡ true) ⊎ (t .0 ≡ false) → (firstThatApplies ts ≡ some n → FirstApplies ts n) → FirstApplies (t ∷ ts) n
-    go (inl h) r =
-        let e′ : some (t .1) ≡ some n = rw h at e in
-        let q : t .1 ≡ n = cc in
-        record { before = []; after = ts; table = ap₂ (λ (b : Bool) (m : ℕ). (b, m) ∷ ts) h q; noneBefore = tt }
-    go (inr h) r =
-        let q : FirstApplies ts n = r (rw h at e) in
-        record { before = t ∷ (q .before); after = q .after; table = ap (λ x. t ∷ x) (q .table); noneBefore = (h, q .noneBefore) }
-
-pub applies-first : (ts : Table) (n : ℕ) → FirstApplies ts n → firstThatApplies ts ≡ some n
-applies-first ts n h = rw (h .table) (go (h .before) (h .noneBefore))
-  where
-    go : (before : Table) → All (λ t. t .0 ≡ false) before → firstThatApplies (before ++ ((true, n) ∷ (h .after))) ≡ some n
-    go [] k = refl
-    go (t ∷ ts) k = rw (k .0) (go ts (k .1))

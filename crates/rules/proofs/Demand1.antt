@@ -18,7 +18,8 @@ use Rattle.rules.proofs.ListLaws.{clash}
 use Rattle.rules.proofs.Rows.{WF, sound-encode}
 use Rattle.rules.proofs.Kept.{wf-step, few-rows}
 use Rattle.rules.proofs.Back.{wf-decode, encode-decode}
-use Rattle.rules.proofs.Decided.{callBy, call-by, passes-sound, first-applies, applies-first}
+use Rattle.rules.proofs.Tables.{first-applies, applies-first}
+use Rattle.rules.proofs.Decided.{callBy, call-by, passes-sound}
 use Rattle.rules.proofs.StateRuns.{serve-unrefused}
 use Rattle.rules.proofs.WordRuns.{Opened, open-done}
 

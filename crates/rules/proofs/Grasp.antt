@@ -16,7 +16,7 @@ use Rattle.rules.specs.Partitions.{sets}
 use Rattle.rules.specs.Fields.{namesIn}
 use Rattle.rules.specs.Matching.{Pair, storedPair, Entry, Op, looking, receiving, taking, pairFor, fieldsAgree, keysAgree, matches}
 use Rattle.rules.specs.State.{State, holds, give, giveAll, withEntries}
-use Rattle.rules.specs.Calls.{Call, put, seek, partyOf, firstThatApplies, badPair, putTable, seekTable, table}
+use Rattle.rules.specs.Calls.{Call, put, seek, partyOf, firstThatApplies, badPair, putTable, table}
 use Rattle.rules.specs.Calls.{entryOf, removes, remaining, gained, finding, serve, step}
 use Rattle.rules.specs.Claims.{pairNames, callNames}
 use Rattle.rules.specs.Group.{Group, member, byGroup, Reaches, EntryInGrasp, CallInGrasp, unrefused}
@@ -27,19 +27,15 @@ use Rattle.rules.proofs.SetLaws.{SharedName, turned, agree-shared}
 use Rattle.rules.proofs.KeyLaws.{stored-le}
 use Rattle.rules.proofs.Kept.{All-gained}
 use Rattle.rules.proofs.Gifts.{giveAll-entries, EightEach, giveAll-eight, SameWords, holds-same, giveAll-other, holds-give}
-use Rattle.rules.proofs.NameTests.{all-used}
+use Rattle.rules.proofs.NameTests.{names-held}
+use Rattle.rules.proofs.Tables.{seek-passed, put-passed}
 use Rattle.rules.proofs.StateRuns.{step-cases, serve-unrefused}
 
 -- ---- what a call that no test turns away has
 
 pub passed-holds : (s : State) (c : Call ℕ) → firstThatApplies (table sets s c) ≡ none → all (holds s (partyOf c)) (callNames c) ≡ true
-unfolding putTable seekTable
-passed-holds s (put who r t fs) h =
-    let a = passed (putTable sets s who r t fs) h .1 .1 .1 .1 in
-    all-used (holds s who) (storedPair r ∷ storedPair t ∷ []) fs (a .0) (a .1 .0) (a .1 .1 .0)
-passed-holds s (seek op who p t room) h =
-    let a = passed (seekTable sets s who p t room) h .1 .1 .1 .1 in
-    all-used (holds s who) (storedPair p ∷ []) t (a .0) (a .1 .0) (a .1 .1 .0)
+passed-holds s (put who r t fs) h = names-held s who (storedPair r ∷ storedPair t ∷ []) fs (put-passed s who r t fs h)
+passed-holds s (seek op who p t room) h = names-held s who (storedPair p ∷ []) t (seek-passed s who p t room h)
 
 passed-range : (s : State) (who : ℕ) (r t : Pair ℤ) (fs : List ℕ) → firstThatApplies (putTable sets s who r t fs) ≡ none
     → keyInRange (t .key) ≡ true

@@ -12,6 +12,7 @@ pub mod Kept
 pub mod Back
 pub mod Edits
 pub mod StateRuns
+pub mod Tables
 pub mod NameTests
 pub mod Grasp
 pub mod Alike

@@ -1,10 +1,11 @@
 -- The three tests of names: together they are the one test of all the names that a call uses, and what they say follows from it.
-use mathlib.Core.Path.{_≡_, refl, ap}
+use mathlib.Core.Path.{_≡_, refl, sym, ap, _∙_}
 use mathlib.Core.Logic.{inl, inr}
-use mathlib.Core.Bool.{Bool, true, false, not, _&&_}
+use mathlib.Core.Bool.{Bool, true, false, _&&_}
 use mathlib.Core.Option.{Option, none, some}
 use mathlib.Core.List.{List, [], _∷_}
 use Prim.Native.Nat.{ℕ}
+use native.Mathlib.Omega.{arith}
 use Rattle.rules.specs.Lists.{all, In}
 use Rattle.rules.specs.Names.{Name, key}
 use Rattle.rules.specs.Partitions.{sets}
@@ -14,7 +15,6 @@ use Rattle.rules.specs.State.{State, holds}
 use Rattle.rules.specs.Calls.{refused, firstThatApplies, partitionsIn, keysIn, heldTests, nameTests}
 use Rattle.rules.specs.Claims.{pairNames, usedNames}
 use Rattle.rules.specs.Earlier.{missing}
-use Rattle.rules.proofs.ListLaws.{not-false}
 use Rattle.rules.proofs.Loops.{all-append}
 
 module _ (h : Name → Bool) where
@@ -36,12 +36,6 @@ module _ (h : Name → Bool) where
       go true true b j = refl
       go true false true j = refl
       go true false false j = refl
-
-  -- where none of the three applies
-  pub all-used : (ps : List (Pair ℕ)) (fs : List ℕ) → not (all h (partitionsIn sets ps)) ≡ false → not (all h (keysIn ps)) ≡ false
-      → not (all h (namesIn fs)) ≡ false → all h (usedNames ps fs) ≡ true
-  all-used ps fs a k f =
-      rw (apart ps fs, not-false (all h (partitionsIn sets ps)) a, not-false (all h (keysIn ps)) k, not-false (all h (namesIn fs)) f) refl
 
 -- R13, R14, R7
 abbrev pub numbers : List ℕ
@@ -67,3 +61,12 @@ names-say s who ps fs =
     go true false f = (14, (refl, inr (inl refl)))
     go true true false = (7, (refl, inr (inr (inl refl))))
     go true true true = refl
+
+-- where none of them applies, all names are held
+pub names-held : (s : State) (who : ℕ) (ps : List (Pair ℕ)) (fs : List ℕ)
+    → firstThatApplies (nameTests sets s who ps fs) ≡ none → all (holds s who) (usedNames ps fs) ≡ true
+names-held s who ps fs e = go (all (holds s who) (usedNames ps fs)) (names-say s who ps fs)
+  where
+    go : (b : Bool) → NamesSay b (firstThatApplies (nameTests sets s who ps fs)) → b ≡ true
+    go true say = refl
+    go false say = let q : some (say .0) ≡ none = sym (say .1 .0) ∙ e in let z : _≡_ {A = ℕ} 0 1 = cc in absurd (omega arith)

@@ -1,10 +1,10 @@
 -- A short result and a missing name: the tests of names come before that of the result's length, which comes last.
 use mathlib.Core.Path.{_≡_, refl, sym, _∙_}
 use mathlib.Core.Logic.{inl, inr}
-use mathlib.Core.Bool.{Bool, true, false, not, cond}
+use mathlib.Core.Bool.{Bool, true, false, not}
 use mathlib.Core.Option.{Option, none, some}
-use mathlib.Core.List.{List, [], _∷_, _++_}
-use Prim.Native.Nat.{ℕ, _≤_, _<_}
+use mathlib.Core.List.{List, [], _∷_}
+use Prim.Native.Nat.{ℕ, _≤_}
 use native.Mathlib.Nat.{le-refl}
 use native.Mathlib.Omega.{arith}
 use borrow.Author.Tests.{lt-ltb, le-ltb, ltb-true, ltb-false}
@@ -16,13 +16,14 @@ use Rattle.rules.specs.Partitions.{sets}
 use Rattle.rules.specs.Fields.{templateField}
 use Rattle.rules.specs.Matching.{Pair, storedPair, Op}
 use Rattle.rules.specs.State.{holds}
-use Rattle.rules.specs.Calls.{Call, put, seek, refused, Table, firstThatApplies, nameTests, shortTest, seekTests, seekTable}
+use Rattle.rules.specs.Calls.{Call, put, seek, refused, Table, firstThatApplies, nameTests, shortTest, seekTests}
 use Rattle.rules.specs.Words.{decode, sound, asked, Exit, call, refusals}
-use Rattle.rules.specs.Claims.{Passes, usedNames, OnlyTheResultIsShort}
+use Rattle.rules.specs.Claims.{Passes, usedNames, OnlyShort, SixExactlyIfOnlyShort}
 use Rattle.rules.specs.Earlier.{missing, shortFirst, ShortAndLacking, Moves, NamesFirst, NamesComeFirst}
 use Rattle.rules.proofs.ListLaws.{clash, not-false, passed}
 use Rattle.rules.proofs.NameTests.{numbers, refused-in, NamesSay, names-say}
-use Rattle.rules.proofs.Decided.{callBy, by-table, call-by, either, first-append, first-within, applies-first}
+use Rattle.rules.proofs.Tables.{either, in-order, either-after, neither, first-within, applies-first, six, seek-order}
+use Rattle.rules.proofs.Decided.{callBy, by-table, call-by}
 use Rattle.rules.proofs.Demand1.{first-refusal-decides}
 
 not-six : (n : ℕ) → In n numbers → ¬ (n ≡ 6)
@@ -30,18 +31,10 @@ not-six n (inl i) e = omega arith
 not-six n (inr (inl i)) e = omega arith
 not-six n (inr (inr (inl i))) e = omega arith
 
--- R6, by whether the result is short
-abbrev six : Bool → Option ℕ
-six short = cond short (some 6) none
-
 -- the same exit, of a call that doesn't move
 alike : (moves : Type 0) (x : Exit) → ¬ moves → NamesFirst moves x x
 alike moves x n =
     record { differs = (λ d. absurd (d refl), λ m. absurd (n m)); was = λ m. absurd (n m); is = λ m. absurd (n m); space = refl; result = refl }
-
-either-none : (o p : Option ℕ) → either o p ≡ none → (o ≡ none) × (p ≡ none)
-either-none none p e = (refl, e)
-either-none (some n) p e = let z : _≡_ {A = ℕ} 0 1 = cc in absurd (omega arith)
 
 module _ (ws : List ℕ) (op : Op) (who : ℕ) (p : Pair ℤ) (t : List ℕ) where
   -- the table's three parts: R1 to R5, the tests of names, and R6
@@ -57,18 +50,14 @@ module _ (ws : List ℕ) (op : Op) (who : ℕ) (p : Pair ℤ) (t : List ℕ) whe
   abbrev isShort : List ℕ → Bool
   isShort result = ltb (length result) (length t)
 
-  in-parts : (xs ys : Table) → firstThatApplies (five ++ (xs ++ ys)) ≡ either (firstThatApplies five) (either (firstThatApplies xs) (firstThatApplies ys))
-  in-parts xs ys = rw (first-append five (xs ++ ys), first-append xs ys) refl
-
   now-is : (result : List ℕ)
       → firstThatApplies (refusals ws (seek op who p t result)) ≡ either (firstThatApplies five) (either (firstThatApplies names) (six (isShort result)))
-  unfolding seekTable
-  now-is result = in-parts names (shortTest t (length result))
+  now-is result = rw (seek-order (decode ws) who p t (length result)) (either-after (not (sound ws)) 1 (firstThatApplies (seekTests sets [] who p t)) _)
 
   before-is : (result : List ℕ)
       → firstThatApplies ((not (sound ws), 1) ∷ shortFirst (decode ws) (asked (seek op who p t result)))
       ≡ either (firstThatApplies five) (either (six (isShort result)) (firstThatApplies names))
-  before-is result = in-parts (shortTest t (length result)) names
+  before-is result = in-order five (shortTest t (length result)) names
 
   five-passed : {result : List ℕ} → ShortAndLacking ws who p t result → firstThatApplies five ≡ none
   five-passed h = rw (h .one, le-ltb 7 who (h .two), h .three, h .four, h .five) refl
@@ -123,9 +112,7 @@ module _ (ws : List ℕ) (op : Op) (who : ℕ) (p : Pair ℤ) (t : List ℕ) whe
   -- ---- R6 comes last
 
   passes-parts : (result : List ℕ) → Passes ws (seek op who p t result) → (firstThatApplies five ≡ none) × (firstThatApplies names ≡ none)
-  passes-parts result e =
-      let a = either-none (firstThatApplies five) _ (sym (now-is result) ∙ e) in
-      (a .0, either-none (firstThatApplies names) _ (a .1) .0)
+  passes-parts result e = neither (firstThatApplies five) (firstThatApplies names) (six (isShort result)) (sym (now-is result) ∙ e)
 
   -- where 6 decides, no other test applies
   six-decides : (result : List ℕ) → firstThatApplies (refusals ws (seek op who p t result)) ≡ some 6
@@ -156,18 +143,21 @@ names-come-first ws (seek op who p t result) =
     rw (call-by ws c, now-is ws op who p t result, by-table shortFirst ws c, before-is ws op who p t result)
     (by-five ws op who p t result (firstThatApplies (five ws op who p t)) refl)
 
-pub only-the-result-is-short : OnlyTheResultIsShort
-only-the-result-is-short ws op who p t result = (there, back)
+pub six-exactly-if-only-short : SixExactlyIfOnlyShort
+six-exactly-if-only-short ws op who p t result = (there, back)
   where
-    there : call ws (seek op who p t result) .answer ≡ refused 6
-        → (length result < length t) × ((lent : List ℕ) → length t ≤ length lent → Passes ws (seek op who p t lent))
-    there e =
-        let c : Call (List ℕ) = seek op who p t result in
-        let a = six-decides ws op who p t result (applies-first (refusals ws c) 6 (first-refusal-decides ws c 6 .0 e)) in
-        (ltb-true (length result) (length t) (a .1 .1), λ lent l. now-is ws op who p t lent ∙ rw (a .0, a .1 .0, le-ltb (length lent) (length t) l) refl)
+    c : Call (List ℕ)
+    c = seek op who p t result
 
-    back : (length result < length t) × ((lent : List ℕ) → length t ≤ length lent → Passes ws (seek op who p t lent))
-        → call ws (seek op who p t result) .answer ≡ refused 6
+    there : call ws c .answer ≡ refused 6 → OnlyShort ws op who p t result
+    there e =
+        let a = six-decides ws op who p t result (applies-first (refusals ws c) 6 (first-refusal-decides ws c 6 .0 e)) in
+        record {
+          short = ltb-true (length result) (length t) (a .1 .1);
+          otherwise = λ lent l. now-is ws op who p t lent ∙ rw (a .0, a .1 .0, le-ltb (length lent) (length t) l) refl;
+        }
+
+    back : OnlyShort ws op who p t result → call ws c .answer ≡ refused 6
     back h =
-        let a = passes-parts ws op who p t t (h .1 t (le-refl (length t))) in
-        rw (call-by ws (seek op who p t result), now-is ws op who p t result, a .0, a .1, lt-ltb (length result) (length t) (h .0)) refl
+        let a = passes-parts ws op who p t t (h .otherwise t (le-refl (length t))) in
+        rw (call-by ws c, now-is ws op who p t result, a .0, a .1, lt-ltb (length result) (length t) (h .short)) refl

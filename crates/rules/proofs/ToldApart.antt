@@ -20,7 +20,8 @@ use Rattle.rules.specs.Earlier.{missing, withOneTest, ToldApart, Missing
 use Rattle.rules.proofs.ListLaws.{clash}
 use Rattle.rules.proofs.NameTests.{numbers, refused-in, NamesSay, names-say}
 use Rattle.rules.proofs.StateRuns.{serve-unrefused}
-use Rattle.rules.proofs.Decided.{callBy, by-table, call-by, first-append}
+use Rattle.rules.proofs.Tables.{first-append}
+use Rattle.rules.proofs.Decided.{callBy, by-table, call-by}
 
 -- R13, R14, R7: the test that applies first, if there is one, is of names
 abbrev OfNames : Option ℕ → Type 0

@@ -53,6 +53,10 @@ keysIn ps = map (λ p. key (p .key)) ps
 abbrev pub shortTest : List ℕ → ℕ → Table
 shortTest t room = (ltb room (length t), 6) ∷ []
 
+-- R8: the party's entries that are live are as many as may be
+abbrev pub fullTest : State → ℕ → Table
+fullTest s who = (leb (limitOf s who) (live who (s .entries)), 8) ∷ []
+
 -- R13, R14, R7, by whether the partitions of pairs, their keys and the names in fields are held
 abbrev pub heldTests : Bool → Bool → Bool → Table
 heldTests partitions keys carried = (not partitions, 13) ∷ (not keys, 14) ∷ (not carried, 7) ∷ []
@@ -73,16 +77,16 @@ module _ (R : Reading) where
   nameTests s who ps fs =
       heldTests (all (holds s who) (partitionsIn ps)) (all (holds s who) (keysIn ps)) (all (holds s who) (namesIn fs))
 
-  -- R2 to R5, R8: the tests of a put, with those of names in their place
-  abbrev pub putTests : Table → State → ℕ → Pair ℤ → Pair ℤ → List ℕ → Table
-  putTests names s who r t fs =
+  -- R2 to R5: the tests that a put begins with, before those that are left
+  abbrev pub putTests : Table → ℕ → Pair ℤ → Pair ℤ → List ℕ → Table
+  putTests left who r t fs =
       (ltb 7 who, 2)
       ∷ (badCount fs, 3)
       ∷ (badPair r || badPair t, 4)
       ∷ (not (all putField fs), 5)
-      ∷ (names ++ ((leb (limitOf s who) (live who (s .entries)), 8) ∷ []))
+      ∷ left
 
-  -- R2 to R5: the tests of a look, receive or take, before those that are left
+  -- R2 to R5: the same of a look, receive or take
   abbrev pub seekTests : Table → ℕ → Pair ℤ → List ℕ → Table
   seekTests left who p t =
       (ltb 7 who, 2)
@@ -93,7 +97,7 @@ module _ (R : Reading) where
 
   -- R2 to R8, R13, R14: the tables
   unfoldable pub putTable : State → ℕ → Pair ℤ → Pair ℤ → List ℕ → Table
-  putTable s who r t fs = putTests (nameTests s who (storedPair r ∷ storedPair t ∷ []) fs) s who r t fs
+  putTable s who r t fs = putTests (nameTests s who (storedPair r ∷ storedPair t ∷ []) fs ++ fullTest s who) who r t fs
 
   unfoldable pub seekTable : State → ℕ → Pair ℤ → List ℕ → ℕ → Table
   seekTable s who p t room = seekTests (nameTests s who (storedPair p ∷ []) t ++ shortTest t room) who p t

@@ -183,13 +183,15 @@ NoRoomExactlyAtSixteen =
     (ws : List ℕ) (who : ℕ) (r t : Pair ℤ) (fs : List ℕ) → PassesBeforeEight ws who r t fs
     → Iff (call ws (put who r t fs) .answer ≡ refused 8) (live who (decode ws .entries) ≡ 16)
 
--- R6: refused by 6 exactly if the result is all that is wrong: it is short, and with enough words, whatever they contain, no test
--- turns the call away
-abbrev pub OnlyTheResultIsShort : Type 0
-OnlyTheResultIsShort =
+-- R6: the result is all that is wrong: it is short, and with enough words, whatever they contain, no test turns the call away
+pub record OnlyShort (ws : List ℕ) (op : Op) (who : ℕ) (p : Pair ℤ) (t result : List ℕ) : Type 0 where
+  pub short : length result < length t
+  pub otherwise : (lent : List ℕ) → length t ≤ length lent → Passes ws (seek op who p t lent)
+
+abbrev pub SixExactlyIfOnlyShort : Type 0
+SixExactlyIfOnlyShort =
     (ws : List ℕ) (op : Op) (who : ℕ) (p : Pair ℤ) (t result : List ℕ)
-    → Iff (call ws (seek op who p t result) .answer ≡ refused 6)
-    ((length result < length t) × ((lent : List ℕ) → length t ≤ length lent → Passes ws (seek op who p t lent)))
+    → Iff (call ws (seek op who p t result) .answer ≡ refused 6) (OnlyShort ws op who p t result)
 
 abbrev pub RowsSuffice : Type 0
 RowsSuffice =

@@ -11,7 +11,7 @@ use Rattle.rules.specs.Partitions.{sets}
 use Rattle.rules.specs.Fields.{templateField}
 use Rattle.rules.specs.Matching.{Pair, storedPair}
 use Rattle.rules.specs.State.{State, holds}
-use Rattle.rules.specs.Calls.{Call, put, seek, partyOf, Answer, refused, Table, firstThatApplies, badCount, badPair, shortTest, nameTests}
+use Rattle.rules.specs.Calls.{Call, put, seek, partyOf, Answer, refused, Table, firstThatApplies, badCount, badPair, shortTest, fullTest, nameTests}
 use Rattle.rules.specs.Calls.{putTests, seekTests, table, serve, decided}
 use Rattle.rules.specs.Words.{decode, sound, Exit, onWords, call}
 use Rattle.rules.specs.Claims.{Iff, usedNames, callNames}
@@ -32,7 +32,7 @@ oneTest s c = (not (all (holds s (partyOf c)) (callNames c)), 7) ∷ []
 
 -- the table with that test in the place of the three
 abbrev pub withOneTest : State → Call ℕ → Table
-withOneTest s (put who r t fs) = putTests sets (oneTest s (put who r t fs)) s who r t fs
+withOneTest s (put who r t fs) = putTests sets (oneTest s (put who r t fs) ++ fullTest s who) who r t fs
 withOneTest s (seek op who p t room) = seekTests sets (oneTest s (seek op who p t room) ++ shortTest t room) who p t
 
 -- one of these exactly where that test says 7, any other answer the same, and every word

@@ -57,7 +57,9 @@ fn seek_of_names(words: [u64; 1809], op: Op) {
 fn seek_refused_twice(words: [u64; 1809], op: Op) {
     seek_of_bad_counts_and_more(words, op);
     seek_of_bad_fields_and_more(words, op);
+    seek_of_bad_fields_and_others(words, op);
     seek_to_one_word_and_more(words, op);
+    seek_to_one_word_and_all(words, op);
 }
 
 fn seek_of_unsound(words: [u64; 1809], op: Op) {
@@ -159,6 +161,15 @@ fn seek_of_bad_fields_and_more(words: [u64; 1809], op: Op) {
     seek_to_one_word(text, words, op, SET_5, -4, &[7, KIND_6]);
 }
 
+fn seek_of_bad_fields_and_others(words: [u64; 1809], op: Op) {
+    let text = b"field of kind 6, set {6}, 6 not held";
+    seek(text, words, op, 1, SET_6, -4, &[7, KIND_6]);
+    let text = b"field of kind 6, key 4 not held";
+    seek(text, words, op, 1, SET_5, 4, &[7, KIND_6]);
+    let text = b"field of kind 6, key 4 in a field, not held";
+    seek_fields(text, words, op, &[KEY + 35, KIND_6]);
+}
+
 fn seek_to_one_word_and_more(words: [u64; 1809], op: Op) {
     let text = b"1 result word, set {5, 6}, 6 not held";
     seek_to_one_word(text, words, op, SET_5_6, -4, &[7, 120]);
@@ -166,6 +177,17 @@ fn seek_to_one_word_and_more(words: [u64; 1809], op: Op) {
     seek_to_one_word(text, words, op, SET_5, 4, &[7, 120]);
     let text = b"1 result word, partition 6 in a field, not held";
     seek_to_one_word(text, words, op, SET_5, -4, &[7, PARTITION + 6]);
+    let text = b"1 result word, key 4 in a field, not held";
+    seek_to_one_word(text, words, op, SET_5, -4, &[7, KEY + 35]);
+}
+
+fn seek_to_one_word_and_all(words: [u64; 1809], op: Op) {
+    let text = b"1 result word, set {6}, 6 not held, key 4 not held, and in a field";
+    seek_to_one_word(text, words, op, SET_6, 4, &[7, KEY + 35]);
+    let text = b"1 result word, key 4 not held, and in a field";
+    seek_to_one_word(text, words, op, SET_5, 4, &[7, KEY + 35]);
+    let text = b"1 result word, bounds, set {6}, 6 not held";
+    seek_to_one_word(text, words, op, SET_6, -4, &[AT_MOST + 7, AT_LEAST + 120]);
 }
 
 // From here on: each call is made on a copy, which is then compared with the words as they were.

@@ -13,7 +13,8 @@ use Rattle.rules.specs.Words.{decode, asked, call, refusals, openRefusals, open
 use Rattle.rules.proofs.ListLaws.{first-All}
 use Rattle.rules.proofs.Rows.{EntryOk}
 use Rattle.rules.proofs.Back.{wf-decode}
-use Rattle.rules.proofs.Decided.{callBy, call-by, passes-sound, first-within}
+use Rattle.rules.proofs.Tables.{first-within}
+use Rattle.rules.proofs.Decided.{callBy, call-by, passes-sound}
 use Rattle.space.specs.Answers.{Small}
 
 table-small : (ws : List ℕ) (c : Call (List ℕ)) → All (λ t. t .1 ≤ 14) (refusals ws c)

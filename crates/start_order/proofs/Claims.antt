@@ -16,7 +16,7 @@ use Rattle.rules.specs.Claims.{FirstApplies}
 use Rattle.rules.proofs.ListLaws.{clash, passed}
 use Rattle.rules.proofs.Members.{any-in, in-any}
 use Rattle.rules.proofs.SetLaws.{same-truth}
-use Rattle.rules.proofs.Decided.{first-applies, applies-first}
+use Rattle.rules.proofs.Tables.{first-applies, applies-first}
 use Rattle.start_order.specs.Pairs.{Pairs, precedes, onCircle}
 use Rattle.start_order.specs.Order.{order}
 use Rattle.start_order.specs.Call.{Outcome, ordered, circle, refused, settledBy, settled, above7, refusals, decided, startOrder, resultAfter}
