@@ -117,6 +117,9 @@ impl Call {
     }
 }
 
+/// The answers where a name isn't held, in the order of their table.
+pub const FOR_NAMES: [u32; 3] = [113, 114, 107];
+
 /// An answer in words.
 pub fn answer_text(kind: Kind, code: u32) -> String {
     match (kind, code) {

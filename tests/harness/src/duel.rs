@@ -1,8 +1,8 @@
 //! Makes the same call of a system and of the reference and compares everything afterwards.
 
+use crate::both::{same, Both};
 use crate::bounds;
-use crate::call::{answer_text, found_fields, Call, Kind};
-use crate::guarded::Guarded;
+use crate::call::{found_fields, Call};
 use crate::missing::Missing;
 use crate::partition_0;
 use crate::pool::lacks_name_in;
@@ -32,50 +32,9 @@ pub const HAPPENINGS: [&str; 5] = [
     TABLE_FULL,
 ];
 
-/// What is lent in a call.
-pub struct Desk {
-    pub space: Guarded,
-    input: Guarded,
-    pub result: Guarded,
-}
-
-impl Desk {
-    pub fn new() -> Desk {
-        Desk {
-            space: Guarded::new(),
-            input: Guarded::new(),
-            result: Guarded::new(),
-        }
-    }
-
-    pub fn lay_out(&mut self, call: &Call, result: &[u64]) {
-        self.input.set(call.input());
-        self.result.set(result);
-    }
-
-    pub fn make(&mut self, call: &Call, system: &mut dyn Space) -> u32 {
-        call.make(
-            system,
-            self.space.lent_mut(),
-            self.input.lent(),
-            self.result.lent_mut(),
-        )
-    }
-
-    pub fn differences(&self, other: &Desk) -> Vec<String> {
-        let mut all = self.space.differences(&other.space, "space");
-        all.extend(self.result.differences(&other.result, "result"));
-        all.extend(self.input.differences(&other.input, "fields or roster"));
-        all
-    }
-}
-
 /// A system and the reference, side by side.
 pub struct Duel<'a> {
-    system: &'a mut dyn Space,
-    reference: Reference,
-    systems: Desk,
-    references: Desk,
+    both: Both<'a>,
     pub tally: Tally,
     pub missing: Missing,
 }
@@ -83,10 +42,7 @@ pub struct Duel<'a> {
 impl<'a> Duel<'a> {
     pub fn new(system: &'a mut dyn Space) -> Duel<'a> {
         Duel {
-            system,
-            reference: Reference::correct(),
-            systems: Desk::new(),
-            references: Desk::new(),
+            both: Both::new(system, Reference::correct()),
             tally: Tally::default(),
             missing: Missing::default(),
         }
@@ -94,39 +50,24 @@ impl<'a> Duel<'a> {
 
     /// Lends both this space from now on.
     pub fn set_space(&mut self, words: &[u64]) {
-        self.systems.space.set(words);
-        self.references.space.set(words);
+        self.both.set_space(words);
     }
 
     /// The space as it is.
     pub fn space(&self) -> &[u64] {
-        self.references.space.lent()
+        self.both.space()
     }
 
     /// Makes the call of both. Gives the answer, or what differs.
     pub fn call(&mut self, call: &Call, rng: &mut Rng) -> Result<u32, String> {
-        let result: Vec<u64> = (0..call.result_len()).map(|_| rng.word()).collect();
-        self.systems.lay_out(call, &result);
-        self.references.lay_out(call, &result);
         let before = Sight::of(self.space());
-        let code = self.references.make(call, &mut self.reference);
-        let looked_at = (call.kind() == Kind::LOOK).then(|| self.systems.space.clone());
-        let systems = self.systems.make(call, self.system);
-        let mut differences = self.systems.differences(&self.references);
-        // A look is held against the words themselves, whatever the reference makes of them.
-        differences.extend(looked_at.iter().flat_map(|words| {
-            let after = &self.systems.space;
-            after.differences(words, "space looked at")
-        }));
-        if systems != code || !differences.is_empty() {
-            return Err(difference_text(call, systems, code, &differences));
-        }
+        let code = self.both.call(call, call, rng, same)?;
         self.tally.count(call, code);
         self.missing.count(call, code, &before.words);
-        for what in bounds::happenings(call, code, self.references.result.lent(), before.rows()) {
+        let result = self.both.references.result.lent();
+        for what in bounds::happenings(call, code, result, before.rows()) {
             self.tally.happened(what);
         }
-        let result = self.references.result.lent();
         for what in partition_0::happenings(call, code, result, &before.words, self.space()) {
             self.tally.happened(what);
         }
@@ -148,8 +89,8 @@ impl<'a> Duel<'a> {
             Call::Put { .. } if code == 0 => Some(before.live),
             Call::Find(operation, query) if (1..=8).contains(&code) => {
                 let query = query.of(&query.fields);
-                self.reference
-                    .matching_row(*operation, &before.words, query)
+                let reference = &self.both.reference;
+                reference.matching_row(*operation, &before.words, query)
             }
             _ => None,
         }
@@ -162,7 +103,7 @@ impl<'a> Duel<'a> {
         let Call::Find(operation, query) = call else {
             return;
         };
-        let found = found_fields(call.kind(), code, self.references.result.lent());
+        let found = found_fields(call.kind(), code, self.both.references.result.lent());
         if found.is_empty() {
             return;
         }
@@ -226,18 +167,4 @@ impl Sight {
     fn last_kept_differs(&self, before: &Sight) -> bool {
         !before.rows().starts_with(self.rows())
     }
-}
-
-fn difference_text(call: &Call, systems: u32, references: u32, differences: &[String]) -> String {
-    let kind = call.kind();
-    let mut text = format!(
-        "{call:?}\n    answers: {} against the reference's {}",
-        answer_text(kind, systems),
-        answer_text(kind, references)
-    );
-    for difference in differences {
-        text.push_str("\n    ");
-        text.push_str(difference);
-    }
-    text
 }

@@ -1,13 +1,14 @@
 //! A roster that lists partition 0 for all eight: every call then answers what it did while the
 //! opening gave that partition to everybody, and leaves the same words.
 
-use crate::call::{answer_text, Call, Kind};
-use crate::duel::Desk;
+use crate::both::{same, Both};
+use crate::call::{Call, Kind};
 use crate::pool::{broken_roster, Maker, Mix, Pool, ALL_PARTIES};
 use crate::report::Report;
 use crate::rng::Rng;
 use crate::space::Space;
 use crate::tally::{answers_of, Answers};
+use crate::variants::{by_difference, check_shown};
 use reference::names::{partition_bit, PARTIES};
 use reference::table::WORDS;
 use reference::{Reference, Variant};
@@ -34,23 +35,17 @@ fn finish(answers: &Answers) -> Result<String, String> {
 }
 
 /// The system, with partition 0 listed for so many parties, and the reference of the rules as they
-/// were, with the roster as it is. Each has a copy of everything.
-struct Both<'a> {
-    system: &'a mut dyn Space,
-    before: Reference,
+/// were, with the roster as it is.
+struct Runs<'a> {
+    both: Both<'a>,
     listed: usize,
-    systems: Desk,
-    befores: Desk,
 }
 
-impl Both<'_> {
-    fn new(system: &mut dyn Space, listed: usize) -> Both<'_> {
-        Both {
-            system,
-            before: Reference::with(Variant::FreePartition0),
+impl Runs<'_> {
+    fn new(system: &mut dyn Space, listed: usize) -> Runs<'_> {
+        Runs {
+            both: Both::new(system, Reference::with(Variant::FreePartition0)),
             listed,
-            systems: Desk::new(),
-            befores: Desk::new(),
         }
     }
 
@@ -64,28 +59,6 @@ impl Both<'_> {
         call
     }
 
-    /// Makes the call of both. Gives the answer, or what differs.
-    fn call(&mut self, call: &Call, rng: &mut Rng) -> Result<u32, String> {
-        let result: Vec<u64> = (0..call.result_len()).map(|_| rng.word()).collect();
-        let listed = self.with_0_listed(call);
-        self.systems.lay_out(&listed, &result);
-        self.befores.lay_out(call, &result);
-        let now = self.systems.make(&listed, self.system);
-        let before = self.befores.make(call, &mut self.before);
-        let space = self.systems.space.differences(&self.befores.space, "space");
-        let result = &self.befores.result;
-        let result = self.systems.result.differences(result, "result");
-        let differences = [space, result].concat();
-        if now == before && differences.is_empty() {
-            return Ok(now);
-        }
-        let [now, before] = [now, before].map(|code| answer_text(call.kind(), code));
-        Err(format!(
-            "{call:?}\n    {now}, before {before}\n    {}",
-            differences.join("\n    ")
-        ))
-    }
-
     /// An opening and some calls, seldom with another opening among them.
     fn run(&mut self, rng: &mut Rng, answers: &mut Answers) -> Result<(), String> {
         let pool = Pool::random(rng, 4, 2);
@@ -95,8 +68,7 @@ impl Both<'_> {
             mix: rng.pick(&MIXES),
         };
         let junk: Vec<u64> = (0..WORDS).map(|_| rng.word()).collect();
-        self.systems.space.set(&junk);
-        self.befores.space.set(&junk);
+        self.both.set_space(&junk);
         let steps = rng.pick(&[30, 100, 180, 300]);
         for number in 0..=steps {
             let roster = pool.roster(rng, 70);
@@ -106,9 +78,10 @@ impl Both<'_> {
                 1 => Call::Open {
                     roster: broken_roster(rng, roster),
                 },
-                _ => maker.call(rng, self.befores.space.lent()),
+                _ => maker.call(rng, self.both.space()),
             };
-            let code = self.call(&call, rng)?;
+            let listed = self.with_0_listed(&call);
+            let code = self.both.call(&listed, &call, rng, same)?;
             answers.add(call.kind(), code);
         }
         Ok(())
@@ -117,10 +90,10 @@ impl Both<'_> {
 
 /// Gives the answers, or what differs first and after how many runs.
 fn compare_runs(system: &mut dyn Space) -> Result<Answers, (u64, String)> {
-    let mut both = Both::new(system, PARTIES);
+    let mut runs = Runs::new(system, PARTIES);
     let mut answers = Answers::default();
     for number in 0..RUNS {
-        both.run(&mut Rng::new(SEED, number), &mut answers)
+        runs.run(&mut Rng::new(SEED, number), &mut answers)
             .map_err(|text| (number, format!("seed {SEED}, run {number}, {text}")))?;
     }
     Ok(answers)
@@ -128,10 +101,10 @@ fn compare_runs(system: &mut dyn Space) -> Result<Answers, (u64, String)> {
 
 /// How many runs differ if partition 0 is listed for this many parties, fewer than all.
 fn differing_runs(system: &mut dyn Space, listed: usize) -> Result<String, String> {
-    let mut both = Both::new(system, listed);
+    let mut runs = Runs::new(system, listed);
     let differs = |number: &u64| {
         let mut rng = Rng::new(CONTROL_SEED, *number);
-        both.run(&mut rng, &mut Answers::default()).is_err()
+        runs.run(&mut rng, &mut Answers::default()).is_err()
     };
     let differing = (0..CONTROL_RUNS).filter(differs).count();
     let text = format!("seed {CONTROL_SEED}, {differing} of {CONTROL_RUNS} runs differ");
@@ -159,20 +132,15 @@ pub fn check(report: &mut Report, who: &str, system: &mut dyn Space) {
 
 /// The harness itself is tested: whatever the listing doesn't make up for must be caught.
 pub fn check_variants(report: &mut Report) {
-    for variant in [
+    let wrong = [
         Variant::OpensWithoutPartition0,
         Variant::OpensWithoutKey0,
         Variant::DefaultPartitionMatchesAll,
         Variant::GivesNamesOfTemplate,
         Variant::OneHeldIsEnough,
-    ] {
-        let outcome = match compare_runs(&mut Reference::with(variant)) {
-            Err((alike, _)) => Ok(format!("after {alike} runs alike")),
-            Ok(_) => Err("not caught".to_string()),
-        };
-        report.check(
-            &format!("partition 0 listed for all shows {variant:?}"),
-            outcome,
-        );
-    }
+    ];
+    let shows = "partition 0 listed for all shows";
+    check_shown(report, shows, &wrong, |system| {
+        compare_runs(system).map_err(by_difference)
+    });
 }

@@ -1,11 +1,10 @@
 //! Looks held against receives with the same arguments on the same space, and looks at memory that
 //! can't be written.
 
+use crate::both::Desk;
 use crate::call::{answer_text, found_fields, is_refusal, Call, Kind, Query};
 use crate::differential::LENGTHS;
-use crate::duel::Desk;
 use crate::edge::{Edge, Side};
-use crate::guarded::Guarded;
 use crate::partition_0;
 use crate::pool::{lacks_name_in, Maker, Mix, Pool, ALL_PARTIES, MOST_WORDS};
 use crate::report::Report;
@@ -13,6 +12,7 @@ use crate::rng::Rng;
 use crate::space::Space;
 use crate::tables::{damage_at_random, damaged_table, sound_table, Damage};
 use crate::tally::{answers_of, Answers};
+use crate::variants::{by_difference, check_shown};
 use reference::names::{key_bit, partition_bit};
 use reference::table::{KEYS, PARTITIONS};
 use reference::{Field, Operation, Reference, Variant};
@@ -169,13 +169,10 @@ impl<'a> Both<'a> {
         let receive = make(&mut self.receive, self.system, asked, Operation::Receive);
         let found = found_fields(Kind::LOOK, look, self.look.result.lent());
         let mut differences = self.look.result.differences(&self.receive.result, "result");
-        differences.extend(differences_from(
-            &self.look,
-            &asked.space,
-            "space looked at",
-        ));
+        let space = &asked.space;
+        differences.extend(self.look.differences_from(space, "space looked at"));
         let with_names = asked.with_names(found);
-        differences.extend(differences_from(&self.receive, &with_names, "space"));
+        differences.extend(self.receive.differences_from(&with_names, "space"));
         if look == receive && differences.is_empty() {
             counts.add(asked, look, found);
             return Ok(());
@@ -194,12 +191,6 @@ fn make(desk: &mut Desk, system: &mut dyn Space, asked: &Asked, operation: Opera
     desk.space.set(&asked.space);
     desk.lay_out(&call, &asked.earlier);
     desk.make(&call, system)
-}
-
-fn differences_from(desk: &Desk, space: &[u64], what: &str) -> Vec<String> {
-    let mut due = Guarded::new();
-    due.set(space);
-    desk.space.differences(&due, what)
 }
 
 /// Gives the counts, or what differs first and after how many pairs.
@@ -226,17 +217,13 @@ pub fn check(report: &mut Report, who: &str, system: &mut dyn Space) {
 
 /// The harness itself is tested: whatever tells looks from receives wrongly must be caught.
 pub fn check_variants(report: &mut Report) {
-    let of_these = |variant: &Variant| *variant != Variant::TakeGivesNoNames;
-    for variant in Variant::OPERATION_SLIPS.into_iter().filter(of_these) {
-        let outcome = match compare_pairs(&mut Reference::with(variant)) {
-            Err((alike, _)) => Ok(format!("after {alike} pairs alike")),
-            Ok(_) => Err("not caught".to_string()),
-        };
-        report.check(
-            &format!("looks held against receives show {variant:?}"),
-            outcome,
-        );
-    }
+    let of_both = |variant: &Variant| *variant != Variant::TakeGivesNoNames;
+    let slips = Variant::OPERATION_SLIPS.into_iter().filter(of_both);
+    let wrong: Vec<Variant> = slips.collect();
+    let show = "looks held against receives show";
+    check_shown(report, show, &wrong, |system| {
+        compare_pairs(system).map_err(by_difference)
+    });
 }
 
 /// What is lent to a look at the edges of pages. Space and fields can't be written: a look that

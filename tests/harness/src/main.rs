@@ -9,12 +9,14 @@
 //! as skipped. The library is linked if `SPACE_LIB_DIR` names its directory when the harness is
 //! built.
 
+mod both;
 mod bounds;
 mod call;
 mod cases;
 mod console;
 mod differential;
 mod duel;
+mod earlier;
 mod edge;
 mod files;
 mod guarded;

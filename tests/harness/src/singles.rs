@@ -1,13 +1,15 @@
 //! Rule M7: with sets of one partition all is as if pairs named partitions, compared for equality.
 //! The same runs, by sets with a system and by numbers with the reference of those rules.
 
-use crate::call::{answer_text, is_refusal, Call, Kind};
+use crate::both::{difference_text, same, Both};
+use crate::call::{is_refusal, Call, Kind};
 use crate::partition_0;
 use crate::pool::{Maker, Mix, Pool, ALL_PARTIES};
 use crate::report::Report;
 use crate::rng::Rng;
 use crate::space::Space;
 use crate::tally::{answers_of, Answers};
+use crate::variants::{by_difference, check_shown};
 use reference::names::{partition_bit, partitions_of, LAST_PARTITION};
 use reference::table::{row_start, LIVE, READ_SET, TAKE_SET, WORDS};
 use reference::{Pair, Reference, Variant};
@@ -22,14 +24,14 @@ const MIXES: [Mix; 3] = [
 ];
 
 /// The same call by sets of one partition, and by the numbers of those partitions.
-struct Both {
+struct Named {
     by_sets: Call,
     by_numbers: Call,
 }
 
-impl Both {
+impl Named {
     /// Of a call with any sets; where one is empty, there is any partition.
-    fn of(rng: &mut Rng, mut call: Call) -> Both {
+    fn of(rng: &mut Rng, mut call: Call) -> Named {
         let mut by_numbers = call.clone();
         let sets = pairs_of(&mut call).into_iter();
         for (pair, number) in sets.zip(pairs_of(&mut by_numbers)) {
@@ -42,7 +44,7 @@ impl Both {
             pair.set = partition_bit(partition);
             number.set = partition.into();
         }
-        Both {
+        Named {
             by_sets: call,
             by_numbers,
         }
@@ -66,13 +68,13 @@ struct Counts {
 }
 
 impl Counts {
-    fn add(&mut self, both: &mut Both, code: u32, held: u64) {
-        let kind = both.by_sets.kind();
-        self.of_0.add(&both.by_sets, code, held);
+    fn add(&mut self, named: &mut Named, code: u32, held: u64) {
+        let kind = named.by_sets.kind();
+        self.of_0.add(&named.by_sets, code, held);
         self.answers.add(kind, code);
         if !is_refusal(code) {
-            let named = pairs_of(&mut both.by_numbers).into_iter();
-            self.partitions.extend(named.map(|pair| pair.set));
+            let pairs = pairs_of(&mut named.by_numbers).into_iter();
+            self.partitions.extend(pairs.map(|pair| pair.set));
         }
     }
 
@@ -99,75 +101,59 @@ impl Counts {
     }
 }
 
-/// The space by sets, and by numbers.
-struct Spaces {
-    by_sets: Vec<u64>,
-    by_numbers: Vec<u64>,
+/// A space by numbers as it is by sets: partitions stand otherwise in live rows.
+fn by_sets(by_numbers: &[u64]) -> Vec<u64> {
+    let mut space = by_numbers.to_vec();
+    for row in 0..space[LIVE] as usize {
+        for place in [READ_SET, TAKE_SET].map(|place| row_start(row) + place) {
+            space[place] = partition_bit(space[place] as u32);
+        }
+    }
+    space
 }
 
-impl Spaces {
-    /// Whether they are the same, but for how partitions stand in live rows.
-    fn are_alike(&self) -> bool {
-        let mut due = self.by_numbers.clone();
-        for row in 0..due[LIVE] as usize {
-            for place in [READ_SET, TAKE_SET].map(|place| row_start(row) + place) {
-                due[place] = partition_bit(due[place] as u32);
-            }
-        }
-        due == self.by_sets
-    }
-
-    /// Makes the call of both. Gives the answer, or what differs.
-    fn call(&mut self, system: &mut dyn Space, both: &Both, rng: &mut Rng) -> Result<u32, String> {
-        let earlier: Vec<u64> = (0..both.by_sets.result_len()).map(|_| rng.word()).collect();
-        let mut results = [earlier.clone(), earlier];
-        let [by_sets, by_numbers] = &mut results;
-        let call = &both.by_sets;
-        let code = call.make(system, &mut self.by_sets, call.input(), by_sets);
-        let call = &both.by_numbers;
-        let mut numbers = Reference::with(Variant::SinglePartitions);
-        let due = call.make(&mut numbers, &mut self.by_numbers, call.input(), by_numbers);
-        if code == due && by_sets == by_numbers && self.are_alike() {
-            return Ok(code);
-        }
-        let [code, due] = [code, due].map(|code| answer_text(call.kind(), code));
-        Err(format!(
-            "{:?}\n    {code} {by_sets:?}, by numbers {due} {by_numbers:?}",
-            both.by_sets
-        ))
+/// Makes the call of both. Gives the answer, or what differs.
+fn call(both: &mut Both, named: &Named, rng: &mut Rng) -> Result<u32, String> {
+    let answers = both.make(&named.by_sets, &named.by_numbers, rng);
+    let due = by_sets(both.space());
+    let mut differences = both.systems.differences_from(&due, "space");
+    let result = &both.references.result;
+    differences.extend(both.systems.result.differences(result, "result"));
+    match same(answers) && differences.is_empty() {
+        true => Ok(answers[0]),
+        false => Err(difference_text(&named.by_sets, answers, &differences)),
     }
 }
 
-fn run(system: &mut dyn Space, rng: &mut Rng, counts: &mut Counts) -> Result<(), String> {
+fn run(both: &mut Both, rng: &mut Rng, counts: &mut Counts) -> Result<(), String> {
     let pool = Pool::random(rng, 4, 2);
     let maker = Maker {
         pool: &pool,
         parties: &ALL_PARTIES,
         mix: rng.pick(&MIXES),
     };
-    let mut spaces = Spaces {
-        by_sets: vec![0; WORDS],
-        by_numbers: vec![0; WORDS],
-    };
+    both.set_space(&[0; WORDS]);
     let roster = pool.roster(rng, 80);
-    let opening = Both::of(rng, Call::Open { roster });
-    spaces.call(system, &opening, rng)?;
+    let opening = Named::of(rng, Call::Open { roster });
+    call(both, &opening, rng)?;
     for _ in 0..rng.pick(&[30, 100, 180, 300]) {
-        let call = maker.call(rng, &spaces.by_sets);
-        let mut both = Both::of(rng, call);
-        let held = partition_0::held_by_party(&both.by_sets, &spaces.by_sets);
-        let code = spaces.call(system, &both, rng)?;
-        counts.add(&mut both, code, held);
+        let space = both.systems.space.lent();
+        let any = maker.call(rng, space);
+        let mut named = Named::of(rng, any);
+        let held = partition_0::held_by_party(&named.by_sets, space);
+        let code = call(both, &named, rng)?;
+        counts.add(&mut named, code, held);
     }
     Ok(())
 }
 
 /// Gives the counts, or what differs first and after how many runs.
 fn compare_runs(system: &mut dyn Space) -> Result<Counts, (u64, String)> {
+    let mut both = Both::new(system, Reference::with(Variant::SinglePartitions));
     let mut counts = Counts::default();
     for number in 0..RUNS {
         let mut rng = Rng::new(SEED, number);
-        run(system, &mut rng, &mut counts)
+        run(&mut both, &mut rng, &mut counts)
             .map_err(|text| (number, format!("seed {SEED}, run {number}, {text}")))?;
     }
     Ok(counts)
@@ -186,7 +172,7 @@ pub fn check(report: &mut Report, who: &str, system: &mut dyn Space) {
 /// The harness itself is tested: whatever takes a set of one wrongly must be caught, and whatever
 /// tells wrongly which name isn't held.
 pub fn check_variants(report: &mut Report) {
-    for variant in [
+    let wrong = [
         Variant::DefaultPartitionMatchesAll,
         Variant::WildcardsMatchPartition,
         Variant::BoundedMatchesAllPartitions,
@@ -211,11 +197,8 @@ pub fn check_variants(report: &mut Report) {
         Variant::WantsPartition0,
         Variant::Partition0IsHeldInPairs,
         Variant::Partition0IsHeldInFields,
-    ] {
-        let outcome = match compare_runs(&mut Reference::with(variant)) {
-            Err((alike, _)) => Ok(format!("after {alike} runs alike")),
-            Ok(_) => Err("not caught".to_string()),
-        };
-        report.check(&format!("sets of one partition show {variant:?}"), outcome);
-    }
+    ];
+    check_shown(report, "sets of one partition show", &wrong, |system| {
+        compare_runs(system).map_err(by_difference)
+    });
 }

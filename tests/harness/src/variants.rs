@@ -2,6 +2,7 @@
 
 use crate::differential::{differing_rounds, first_difference};
 use crate::report::Report;
+use crate::space::Space;
 use reference::{Clause, Reference, Variant};
 
 /// So many rounds of each part are made with each slip about the defaults.
@@ -46,6 +47,27 @@ pub fn check_defaults(report: &mut Report) {
         };
         report.check(&format!("differential shows {variant:?}"), outcome);
     }
+}
+
+/// Each of these must be caught by a comparison, which says how.
+pub fn check_shown<T>(
+    report: &mut Report,
+    shows: &str,
+    wrong: &[Variant],
+    compare: impl Fn(&mut dyn Space) -> Result<T, String>,
+) {
+    for variant in wrong {
+        let outcome = match compare(&mut Reference::with(*variant)) {
+            Err(how) => Ok(how),
+            Ok(_) => Err("not caught".to_string()),
+        };
+        report.check(&format!("{shows} {variant:?}"), outcome);
+    }
+}
+
+/// How something was caught: by a difference, with so many rounds before it.
+pub fn by_difference((alike, _): (u64, String)) -> String {
+    format!("after {alike} alike")
 }
 
 /// How many files or lists were alike before a difference, wherever one was looked for.
