@@ -16,6 +16,8 @@ impl Kind {
     pub const RECEIVE: Kind = Kind::Find(Operation::Receive);
     pub const TAKE: Kind = Kind::Find(Operation::Take);
     pub const ALL: [Kind; 5] = [Kind::Open, Kind::Put, Kind::LOOK, Kind::RECEIVE, Kind::TAKE];
+    /// Those that lend result words.
+    pub const FINDS: [Kind; 3] = [Kind::LOOK, Kind::RECEIVE, Kind::TAKE];
 
     /// The word for it, also in the console's lines.
     pub fn word(self) -> &'static str {

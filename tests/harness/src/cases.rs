@@ -2,7 +2,7 @@
 //! of names that aren't held, one of partition 0 and one of openings, with answers and words written
 //! by hand.
 
-use crate::call::{answer_text, Call, Kind, Query};
+use crate::call::{answer_text, is_refusal, Call, Kind, Query};
 use crate::report::Report;
 use crate::space::Space;
 use reference::{Operation, Pair};
@@ -57,11 +57,11 @@ fn take(party: u32, pair: Pair, fields: &[u64]) -> Call {
     Call::Find(Operation::Take, query(party, pair, fields))
 }
 
-/// A call with less room for the result than its two fields need.
-fn with_short_result(operation: Operation) -> Call {
+/// A call with less room for the result than its fields need.
+fn with_short_result(operation: Operation, pair: Pair, fields: &[u64]) -> Call {
     let query = Query {
-        result_len: 1,
-        ..query(0, pair(0, 0), &[1, 2])
+        result_len: fields.len() - 1,
+        ..query(0, pair, fields)
     };
     Call::Find(operation, query)
 }
@@ -132,10 +132,13 @@ fn cases() -> Vec<Case> {
                 step(put(0, pair(0, 0), &[1; 9]), REFUSED + 3),
                 step(put(0, pair(0, -32), &[1]), REFUSED + 4),
                 step(put(0, pair(0, 0), &[WILDCARD]), REFUSED + 5),
-                step(with_short_result(Operation::Receive), REFUSED + 6),
                 step(receive(0, pair(9, -4), &[1]), REFUSED + 13),
                 step(look(0, pair(5, -4), &[1]), REFUSED + 14),
                 step(put(0, pair(5, 4), &[KEY_4 + 1]), REFUSED + 7),
+                step(
+                    with_short_result(Operation::Receive, HELD, &[1, 2]),
+                    REFUSED + 6,
+                ),
                 step(
                     Call::Open {
                         roster: vec![0; 15],
@@ -152,6 +155,7 @@ fn looks() -> Vec<Step> {
     let defaults = pair(0, 0);
     let names = [PARTITION_5, KEY_4];
     let all = [WILDCARD, WILDCARD];
+    let short_look = |pair, field| with_short_result(Operation::Look, pair, &[field, 1]);
     let by_two_pairs = Call::Put {
         party: 0,
         read: pair(5, 4),
@@ -185,11 +189,11 @@ fn looks() -> Vec<Step> {
         step(look(8, under(0, 0), &[]), REFUSED + 2),
         step(look(0, under(0, 0), &[1; 9]), REFUSED + 3),
         step(look(0, pair(0, -32), &[KIND_6]), REFUSED + 4),
-        step(look(0, pair(5, -4), &[KIND_6]), REFUSED + 5),
-        step(with_short_result(Operation::Look), REFUSED + 6),
-        step(look(0, pair(9, -4), &[KEY_4 + 1]), REFUSED + 13),
-        step(look(0, pair(5, -4), &[KEY_4 + 1]), REFUSED + 14),
-        step(look(0, pair(5, 4), &[KEY_4 + 1]), REFUSED + 7),
+        step(look(0, pair(9, -4), &[KIND_6]), REFUSED + 5),
+        step(short_look(LACKING_BOTH, KEY_5), REFUSED + 13),
+        step(short_look(LACKING_KEY, KEY_5), REFUSED + 14),
+        step(short_look(HELD, KEY_5), REFUSED + 7),
+        step(short_look(HELD, KEY_4), REFUSED + 6),
     ]
 }
 
@@ -315,33 +319,34 @@ fn puts_without_names() -> Vec<Step> {
     puts.map(step_of).to_vec()
 }
 
-/// The same of looks, receives and takes, at last with too few result words.
+/// The same of looks, receives and takes, for the two fields with two result words, one and none.
 fn finds_without_names() -> Vec<Step> {
     let finds = [
-        (LACKING_SET, 1, 2, 13),
-        (LACKING_BOTH, 1, 2, 13),
-        (LACKING_BOTH, KEY_5, 2, 13),
-        (LACKING_KEY, 1, 2, 14),
-        (LACKING_KEY, PARTITION_9, 2, 14),
-        (HELD, KEY_5, 2, 7),
-        (HELD, PARTITION_9, 2, 7),
-        (LACKING_BOTH, KIND_6, 2, 5),
-        (LACKING_BOTH, 1, 1, 6),
-        (LACKING_KEY, 1, 1, 6),
-        (HELD, KEY_5, 1, 6),
+        (LACKING_SET, 1, 13),
+        (LACKING_SET, PARTITION_9, 13),
+        (LACKING_BOTH, 1, 13),
+        (LACKING_BOTH, KEY_5, 13),
+        (LACKING_KEY, 1, 14),
+        (LACKING_KEY, PARTITION_9, 14),
+        (HELD, KEY_5, 7),
+        (HELD, PARTITION_9, 7),
+        (LACKING_BOTH, KIND_6, 5),
+        (HELD, KIND_6, 5),
     ];
+    let lent = finds.map(|(pair, field, due)| [0, 1, 2].map(|lent| (pair, field, lent, due)));
+    // With nothing else that is lacking.
+    let short = [0, 1].map(|lent| (HELD, 1, lent, 6));
     let operations = [Operation::Look, Operation::Receive, Operation::Take];
-    let steps = finds
-        .into_iter()
-        .flat_map(|(pair, field, result_len, due)| {
-            operations.map(|operation| {
-                let query = Query {
-                    result_len,
-                    ..query(0, pair, &[WILDCARD, field])
-                };
-                step(Call::Find(operation, query), REFUSED + due)
-            })
-        });
+    let finds = lent.into_iter().flatten().chain(short);
+    let steps = finds.flat_map(|(pair, field, result_len, due)| {
+        operations.map(|operation| {
+            let query = Query {
+                result_len,
+                ..query(0, pair, &[WILDCARD, field])
+            };
+            step(Call::Find(operation, query), REFUSED + due)
+        })
+    });
     steps.collect()
 }
 
@@ -495,7 +500,7 @@ fn run_case(system: &mut dyn Space, with_0: &[usize], steps: &[Step]) -> Result<
                 "{call:?}: {got} {result:?}, due is {due} {expected:?}"
             ));
         }
-        if call.kind() == Kind::LOOK && space != before {
+        if (call.kind() == Kind::LOOK || is_refusal(got)) && space != before {
             return Err(format!("{call:?}: the space has changed"));
         }
     }

@@ -218,8 +218,12 @@ pub fn check(report: &mut Report, who: &str, system: &mut dyn Space) {
 /// The harness itself is tested: whatever tells looks from receives wrongly must be caught.
 pub fn check_variants(report: &mut Report) {
     let of_both = |variant: &Variant| *variant != Variant::TakeGivesNoNames;
+    let of_result = [
+        Variant::LookTestsResultFirst,
+        Variant::ReceiveTestsResultFirst,
+    ];
     let slips = Variant::OPERATION_SLIPS.into_iter().filter(of_both);
-    let wrong: Vec<Variant> = slips.collect();
+    let wrong: Vec<Variant> = slips.chain(of_result).collect();
     let show = "looks held against receives show";
     check_shown(report, show, &wrong, |system| {
         compare_pairs(system).map_err(by_difference)

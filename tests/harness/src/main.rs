@@ -18,6 +18,7 @@ mod differential;
 mod duel;
 mod earlier;
 mod edge;
+mod enough_words;
 mod files;
 mod guarded;
 mod isolation;
@@ -26,6 +27,7 @@ mod library;
 mod listed;
 mod looks;
 mod missing;
+mod names_first;
 mod order;
 mod order_files;
 mod order_lists;
@@ -116,6 +118,8 @@ fn run_part(report: &mut Report, part: &str) -> Result<(), &'static str> {
             singles::check_variants(report);
             told_apart::check_variants(report);
             listed::check_variants(report);
+            names_first::check_variants(report);
+            enough_words::check_variants(report);
             isolation::check_variants(report);
             console::check_variants(report);
             roster::check_variants(report);
@@ -150,6 +154,8 @@ fn compare_calls(report: &mut Report, who: &str, system: &mut dyn Space) {
     singles::check(report, who, system);
     told_apart::check(report, who, system);
     listed::check(report, who, system);
+    names_first::check(report, who, system);
+    enough_words::check(report, who, system);
 }
 
 #[cfg(library_linked)]

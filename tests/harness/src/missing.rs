@@ -1,7 +1,7 @@
 //! Which names the calls lacked, and what they answered: every combination must come up, in both
-//! pairs of a put.
+//! pairs of a put, and with a short result in looks, receives and takes.
 
-use crate::call::{answer_text, Call, Kind};
+use crate::call::{answer_text, Call, Kind, FOR_NAMES};
 use crate::pool::{held_of, holds_key, lacked_names_in};
 use reference::names::PARTIES;
 use reference::table::{rows_of_writer, LIMIT};
@@ -19,8 +19,11 @@ const SETS: u32 = READ_SET | TAKE_SET;
 const KEYS: u32 = READ_KEY | TAKE_KEY;
 const FIELDS: u32 = PARTITION_IN_FIELD | KEY_IN_FIELD;
 
-/// Calls of each kind that lack exactly this, for each combination.
+/// Calls of each kind that lack exactly this, for each combination; and as many of them with a short
+/// result.
 const FEWEST: u64 = 20;
+/// Calls of each kind that have a short result and lack nothing.
+const FEWEST_SHORT: u64 = 500;
 
 /// The combinations that a kind of call can lack.
 pub fn combinations(kind: Kind) -> impl Iterator<Item = u32> {
@@ -33,7 +36,7 @@ pub fn combinations(kind: Kind) -> impl Iterator<Item = u32> {
 }
 
 /// What a call lacks that names good pairs.
-fn lacked(call: &Call, space: &[u64]) -> u32 {
+pub fn lacked(call: &Call, space: &[u64]) -> u32 {
     let Some(party) = call.party().filter(|party| (*party as usize) < PARTIES) else {
         return 0;
     };
@@ -56,9 +59,11 @@ fn lacked(call: &Call, space: &[u64]) -> u32 {
     in_fields.fold(of_pairs, |all, one| all | one)
 }
 
-/// By what a call is refused that lacks this and is else as it should be.
-fn due(lacked: u32) -> u32 {
+/// By what a call is refused that lacks this, with a short result or without; where nothing is lacked,
+/// only a short result is left.
+pub fn due(lacked: u32) -> u32 {
     match lacked {
+        0 => 106,
         _ if lacked & SETS > 0 => 113,
         _ if lacked & KEYS > 0 => 114,
         _ => 107,
@@ -80,10 +85,63 @@ fn is_of_sort(lacked: u32, (_, set, key, field): (&str, bool, bool, bool)) -> bo
     (lacked & SETS > 0, lacked & KEYS > 0, lacked & FIELDS > 0) == (set, key, field)
 }
 
-/// How often calls that lacked something got which answer.
+/// A call that lacked names, or had a short result, or both.
+#[derive(Clone, Copy, PartialEq, Eq, PartialOrd, Ord)]
+struct Refused {
+    kind: Kind,
+    lacked: u32,
+    short: bool,
+    code: u32,
+}
+
+impl Refused {
+    fn of(call: &Call, code: u32, before: &[u64]) -> Refused {
+        let is_find = matches!(call, Call::Find(..));
+        Refused {
+            kind: call.kind(),
+            lacked: lacked(call, before),
+            short: is_find && call.result_len() < call.input().len(),
+            code,
+        }
+    }
+
+    fn is_due(self) -> bool {
+        self.code == due(self.lacked) && (self.short || self.lacked > 0)
+    }
+
+    fn text(self) -> String {
+        let result = match self.short {
+            true => " with a short result",
+            false => "",
+        };
+        let (word, answer) = (self.kind.word(), answer_text(self.kind, self.code));
+        format!("{word}: {answer}, lacking {:#b}{result}", self.lacked)
+    }
+}
+
+/// All that has to come up, and how often.
+fn wanted() -> impl Iterator<Item = (Refused, u64)> {
+    let refused = |kind, lacked, short| Refused {
+        kind,
+        lacked,
+        short,
+        code: due(lacked),
+    };
+    let kinds = Kind::ALL.into_iter();
+    let lacking = kinds.flat_map(move |kind| {
+        combinations(kind).map(move |lacked| (refused(kind, lacked, false), FEWEST))
+    });
+    let short = Kind::FINDS.into_iter().flat_map(move |kind| {
+        let lacking = combinations(kind).map(move |lacked| (refused(kind, lacked, true), FEWEST));
+        lacking.chain([(refused(kind, 0, true), FEWEST_SHORT)])
+    });
+    lacking.chain(short)
+}
+
+/// How often calls that lacked something, or had a short result, got which answer.
 #[derive(Default)]
 pub struct Missing {
-    answers: BTreeMap<(Kind, u32, u32), u64>,
+    answers: BTreeMap<Refused, u64>,
     /// Puts with the limit reached, by their answer.
     at_limit: BTreeMap<u32, u64>,
 }
@@ -94,11 +152,8 @@ impl Missing {
         if !matches!(code, 106 | 107 | 113 | 114) {
             return;
         }
-        let lacked = lacked(call, before);
-        if lacked > 0 {
-            let answer = (call.kind(), code, lacked);
-            *self.answers.entry(answer).or_default() += 1;
-        }
+        let refused = Refused::of(call, code, before);
+        *self.answers.entry(refused).or_default() += 1;
         let Call::Put { party, .. } = call else {
             return;
         };
@@ -107,27 +162,41 @@ impl Missing {
         }
     }
 
-    fn of(&self, kind: Kind, such: impl Fn(u32, u32) -> bool) -> u64 {
-        let counts = self.answers.iter();
-        let such = counts.filter(|((of, code, lacked), _)| *of == kind && such(*code, *lacked));
-        such.map(|(_, count)| count).sum()
+    fn of(&self, such: impl Fn(&Refused) -> bool) -> u64 {
+        let counts = self.answers.iter().filter(|(refused, _)| such(refused));
+        counts.map(|(_, count)| count).sum()
     }
 
-    /// What was lacked, by sorts, in calls that were refused for it.
+    /// What was lacked, by sorts, in calls that were refused for it, without and with a short result.
     pub fn table(&self) -> String {
         let kinds = [Kind::Put, Kind::LOOK, Kind::RECEIVE, Kind::TAKE];
-        let mut text = format!("  {:<28}", "refused, lacking just");
+        let mut text = format!("  {:<42}", "refused, lacking just");
         text.extend(kinds.map(|kind| format!("{:>10}", kind.word())));
-        for sort in SORTS {
-            text.push_str(&format!("\n  {:<28}", sort.0));
-            text.extend(kinds.map(|kind| {
-                let count = self.of(kind, |code, lacked| {
-                    code == due(lacked) && is_of_sort(lacked, sort)
-                });
+        let mut line = |what: &str, kinds: &[Kind], such: &dyn Fn(&Refused) -> bool| {
+            text.push_str(&format!("\n  {what:<42}"));
+            let blank = " ".repeat(10 * (4 - kinds.len()));
+            text.push_str(&blank);
+            text.extend(kinds.iter().map(|kind| {
+                let count = self.of(|refused| refused.kind == *kind && such(refused));
                 format!("{count:>10}")
             }));
+        };
+        for sort in SORTS {
+            line(sort.0, &kinds, &|refused| {
+                !refused.short && refused.is_due() && is_of_sort(refused.lacked, sort)
+            });
         }
-        let crossed = self.of(Kind::Put, |_, lacked| lacked == READ_KEY | TAKE_SET);
+        for sort in SORTS {
+            line(
+                &format!("{}, short result", sort.0),
+                &Kind::FINDS,
+                &|refused| refused.short && refused.is_due() && is_of_sort(refused.lacked, sort),
+            );
+        }
+        line("nothing, short result", &Kind::FINDS, &|refused| {
+            refused.short && refused.is_due() && refused.lacked == 0
+        });
+        let crossed = self.of(|refused| refused.lacked == READ_KEY | TAKE_SET);
         text + &format!(
             "\n  puts that lack just a read key and a partition for taking: {crossed}\n"
         )
@@ -135,108 +204,99 @@ impl Missing {
 
     /// Fails where a combination came up too seldom, or not with the refusal that is due to it.
     pub fn check(&self) -> Result<String, String> {
-        let mut missing = Vec::new();
+        let mut wrong: Vec<String> = Vec::new();
         let mut fewest = u64::MAX;
-        let mut wanted = 0;
-        for kind in Kind::ALL {
-            for combination in combinations(kind) {
-                let due = due(combination);
-                let count = self.of(kind, |code, lacked| (code, lacked) == (due, combination));
-                if count < FEWEST {
-                    let answer = answer_text(kind, due);
-                    let word = kind.word();
-                    missing.push(format!(
-                        "{word}: {answer}, lacking {combination:#b}: {count}"
-                    ));
-                }
-                fewest = fewest.min(count);
-                wanted += 1;
+        let mut combinations = 0;
+        for (refused, least) in wanted() {
+            let count = self.answers.get(&refused).copied().unwrap_or_default();
+            if count < least {
+                wrong.push(format!("too seldom: {}: {count}", refused.text()));
             }
+            fewest = fewest.min(count);
+            combinations += 1;
         }
-        missing.extend(self.beside_others());
-        match missing.is_empty() {
-            true => Ok(format!(
-                "{wanted} combinations, each {fewest} times or more"
-            )),
-            false => Err(format!("too seldom: {}", missing.join("; "))),
-        }
-    }
-
-    /// What never came up of refusal 6 where a name was lacked, and of puts at the limit.
-    fn beside_others(&self) -> Vec<String> {
-        let mut missing = Vec::new();
-        for kind in [Kind::LOOK, Kind::RECEIVE, Kind::TAKE] {
-            for sort in SORTS {
-                if self.of(kind, |code, lacked| code == 106 && is_of_sort(lacked, sort)) == 0 {
-                    missing.push(format!("{}: refusal 6, lacking {}", kind.word(), sort.0));
-                }
-            }
-        }
-        for code in [113, 114, 107] {
+        let others = self.answers.keys().filter(|refused| !refused.is_due());
+        wrong.extend(others.map(|refused| format!("not due: {}", refused.text())));
+        for code in FOR_NAMES {
             if !self.at_limit.contains_key(&code) {
                 let answer = answer_text(Kind::Put, code);
-                missing.push(format!("{answer} with sixteen live entries"));
+                wrong.push(format!("never: {answer} with sixteen live entries"));
             }
         }
-        missing
+        match wrong.is_empty() {
+            true => Ok(format!(
+                "{combinations} combinations, each {fewest} times or more"
+            )),
+            false => Err(wrong.join("; ")),
+        }
     }
 }
 
 #[cfg(test)]
 mod tests {
     use super::*;
+    use crate::call::Query;
 
     /// Just enough of everything.
     fn enough() -> Missing {
-        let mut missing = Missing::default();
-        for kind in Kind::ALL {
-            for lacked in combinations(kind) {
-                missing.answers.insert((kind, due(lacked), lacked), FEWEST);
-                if kind != Kind::Put {
-                    missing.answers.insert((kind, 106, lacked), 1);
-                }
-            }
+        Missing {
+            answers: wanted().collect(),
+            at_limit: FOR_NAMES.map(|code| (code, 1)).into(),
         }
-        missing.at_limit = [113, 114, 107].map(|code| (code, 1)).into();
-        missing
     }
 
     #[test]
     fn every_combination_counts() {
         assert!(enough().check().is_ok());
-        for kind in Kind::ALL {
-            for lacked in combinations(kind) {
-                let answer = (kind, due(lacked), lacked);
+        // Of a put 63, of the others 15 with and without a short result, and one with nothing else.
+        assert_eq!(wanted().count(), 63 + 3 * (15 + 15 + 1));
+        for (refused, least) in wanted() {
+            let mut missing = enough();
+            missing.answers.insert(refused, least - 1);
+            assert!(missing.check().is_err(), "{}", refused.text());
+        }
+    }
+
+    #[test]
+    fn what_is_not_due_counts() {
+        for (refused, _) in wanted() {
+            for code in [106, 113, 114, 107] {
                 let mut missing = enough();
-                missing.answers.insert(answer, FEWEST - 1);
-                assert!(missing.check().is_err(), "{kind:?} {lacked:#b}");
-                // With another number for it.
-                let count = missing.answers.remove(&answer).unwrap_or_default();
-                let other = match due(lacked) {
-                    107 => 113,
-                    _ => 107,
-                };
-                missing.answers.insert((kind, other, lacked), count + 1);
-                assert!(missing.check().is_err(), "{kind:?} {lacked:#b}");
+                missing.answers.insert(Refused { code, ..refused }, 1_000);
+                let due = code == refused.code;
+                assert_eq!(missing.check().is_ok(), due, "{}", refused.text());
             }
         }
     }
 
     #[test]
-    fn what_stands_beside_counts() {
-        for code in [113, 114, 107] {
+    fn puts_at_the_limit_count() {
+        for code in FOR_NAMES {
             let mut missing = enough();
             missing.at_limit.remove(&code);
             assert!(missing.check().is_err());
         }
-        for kind in [Kind::LOOK, Kind::RECEIVE, Kind::TAKE] {
-            for sort in SORTS {
-                let mut missing = enough();
-                let counts = &mut missing.answers;
-                counts.retain(|(of, code, lacked), _| {
-                    (*of, *code) != (kind, 106) || !is_of_sort(*lacked, sort)
-                });
-                assert!(missing.check().is_err(), "{kind:?} {}", sort.0);
+    }
+
+    /// By party 0, which holds partition 0: with two fields, one word is too few and two are enough.
+    #[test]
+    fn what_is_short() {
+        let mut space = vec![0; reference::table::WORDS];
+        let mut roster = [0; 16];
+        roster[0] = 1;
+        reference::Reference::correct().open(&mut space, &roster);
+        for (set, lacked) in [(1, 0), (2, READ_SET), (3, READ_SET)] {
+            for (result_len, short) in [(0, true), (1, true), (2, false), (3, false)] {
+                let query = Query {
+                    party: 0,
+                    pair: Pair { set, key: 0 },
+                    fields: vec![1, 2],
+                    result_len,
+                };
+                let call = Call::Find(reference::Operation::Take, query);
+                let refused = Refused::of(&call, due(lacked), &space);
+                assert_eq!((refused.lacked, refused.short), (lacked, short));
+                assert_eq!(refused.is_due(), short || lacked > 0);
             }
         }
     }

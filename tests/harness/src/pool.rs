@@ -448,6 +448,7 @@ impl Unheld {
 }
 
 /// Puts names that the party doesn't hold into any combination of places, if there are such names.
+/// Half of the calls that lend a result then have a short one besides, so that two tests apply.
 fn lack_names(rng: &mut Rng, space: &[u64], call: &mut Call) {
     let party = call.party().filter(|party| (*party as usize) < PARTIES);
     let Some(unheld) = party.and_then(|party| Unheld::of(space, party)) else {
@@ -473,6 +474,9 @@ fn lack_names(rng: &mut Rng, space: &[u64], call: &mut Call) {
     }
     if has(missing::KEY_IN_FIELD) {
         set_some_field(rng, call, |rng| Field::Key(rng.pick(&unheld.keys)).word());
+    }
+    if rng.percent(50) {
+        break_result(rng, call);
     }
 }
 

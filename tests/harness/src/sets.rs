@@ -172,7 +172,7 @@ pub fn named_pairs(call: &Call) -> Vec<(usize, Pair)> {
     }
 }
 
-fn in_range(pair: &Pair) -> bool {
+pub fn in_range(pair: &Pair) -> bool {
     pair.set != 0 && key_in_range(pair.key)
 }
 

@@ -22,13 +22,14 @@ fn possible(kind: Kind, code: u32) -> bool {
     match kind {
         Kind::Open => matches!(code, 0 | 101 | 109),
         Kind::Put => matches!(code, 0 | 101..=105 | 113 | 114 | 107 | 108),
-        Kind::Find(_) => matches!(code, 0..=8 | 101..=106 | 113 | 114 | 107),
+        Kind::Find(_) => matches!(code, 0..=8 | 101..=105 | 113 | 114 | 107 | 106),
     }
 }
 
 /// All answers, refusals in the order of their table.
 fn codes() -> impl Iterator<Item = u32> {
-    (0..=8).chain(101..=106).chain([113, 114]).chain(107..=109)
+    let refusals = [101, 102, 103, 104, 105, 113, 114, 107, 106, 108, 109];
+    (0..=8).chain(refusals)
 }
 
 /// The answers that the rules make possible of this kind of call.
@@ -40,6 +41,12 @@ pub fn answers_of(kind: Kind) -> impl Iterator<Item = (Kind, u32)> {
 impl Answers {
     pub fn add(&mut self, kind: Kind, code: u32) {
         *self.0.entry((kind, code)).or_default() += 1;
+    }
+
+    /// As if one had not come.
+    #[cfg(test)]
+    pub fn take_one(&mut self, kind: Kind, code: u32) {
+        *self.0.entry((kind, code)).or_default() -= 1;
     }
 
     pub fn of(&self, kind: Kind, code: u32) -> u64 {

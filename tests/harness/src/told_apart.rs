@@ -1,5 +1,5 @@
 //! Refusals 13, 14 and 7 against the one that they were: with 13 and 14 read as 7, a call answers
-//! what it did before they were told apart, and leaves the same words.
+//! what it would if they were not told apart and all else were as it is, and leaves the same words.
 
 use crate::call::{Call, Kind, FOR_NAMES};
 use crate::earlier::{self, Comparison};
@@ -85,7 +85,6 @@ pub fn check_variants(report: &mut Report) {
         Variant::ReadKeyAloneHeld,
         Variant::TakeKeyAloneHeld,
         Variant::AtMostNamesPartition,
-        Variant::TestsNamesBeforeResult,
         Variant::TestsLimitBeforeNames,
         Variant::GivesReadSet,
         Variant::OneRefusalForNames,
@@ -93,5 +92,6 @@ pub fn check_variants(report: &mut Report) {
         Variant::NamesOfPutBy7,
         Variant::NamesOfLookBy7,
     ];
+    let wrong = [&wrong[..], &Variant::RESULT_SLIPS].concat();
     earlier::check_variants::<Counts>(report, &wrong);
 }

@@ -17,6 +17,7 @@ pub fn check(report: &mut Report) {
         .chain(Variant::BOUND_SLIPS)
         .chain(Variant::SET_SLIPS)
         .chain(Variant::NAME_SLIPS)
+        .chain(Variant::RESULT_SLIPS)
         .chain(Variant::DEFAULT_SLIPS)
         .chain(Variant::ROW_SLIPS)
         .chain(Variant::skipped_clauses());

@@ -187,8 +187,9 @@ impl Reference {
             party,
             pairs: &[read, take],
             fields,
+            result_len: None,
         };
-        let lacking = self.names_refusal(space, used);
+        let lacking = self.last_refusal(space, used);
         let full = (self.charge(space, party) >= self.limit()).then_some(8);
         match self.variant {
             Variant::TestsLimitBeforeNames => full.or(lacking),
@@ -226,14 +227,9 @@ impl Reference {
             party: party as usize,
             pairs: &[pair],
             fields,
+            result_len: Some(result_len),
         };
-        let lacking = self.names_refusal(space, used);
-        let short = (result_len < fields.len()).then_some(6);
-        match self.variant {
-            Variant::TestsResultLate => lacking,
-            Variant::TestsNamesBeforeResult => lacking.or(short),
-            _ => short.or(lacking),
-        }
+        self.last_refusal(space, used)
     }
 
     /// Whether a pair that a call names there is in range.

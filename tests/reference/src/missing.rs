@@ -1,5 +1,5 @@
-//! Which of the names that a call uses its party doesn't hold, and by what that is refused; and what
-//! the slips make of it.
+//! The last tests that a call is put to: whether its party holds the names that it uses, and whether
+//! it lends enough result words; and what the slips make of these.
 
 use crate::calls::{Operation, Reference};
 use crate::names::{has_partition, key_bit, Field, Pair, LAST_PARTITION};
@@ -14,53 +14,53 @@ pub(crate) struct Used<'a> {
     /// A put's pair for reading is the first.
     pub pairs: &'a [Pair],
     pub fields: &'a [u64],
+    /// How many result words are lent; a put needs none.
+    pub result_len: Option<usize>,
 }
 
-/// Where a name stands that isn't held.
+/// The tests that come after that of the field words.
 #[derive(Clone, Copy, Debug, PartialEq, Eq)]
-enum Lacked {
-    /// In the set of a pair.
-    Partition,
-    /// The key of a pair.
-    Key,
-    /// In a field, be it a partition or a key.
-    Field,
+enum Test {
+    /// Of the sets of the pairs.
+    Partitions,
+    /// Of the keys of the pairs.
+    Keys,
+    /// Of the names in fields, be they partitions or keys.
+    Carried,
+    /// Of the number of result words.
+    Result,
 }
 
 impl Reference {
-    /// The refusal where a name isn't held: first for a partition of any pair, then for a key of
-    /// any pair, then for what a field carries.
-    pub(crate) fn names_refusal(&self, space: &[u64], used: Used) -> Option<u32> {
-        let place = match (self.variant, used.operation) {
-            (Variant::LookNeedsNoNames, Some(Operation::Look)) => None,
-            (Variant::OneRefusalForNames, _) => {
-                return (!self.holds_all(space, used)).then_some(7);
-            }
-            (Variant::NamesPairByPair, _) => self.first_pair_by_pair(space, used),
-            _ => self.first_lacked(space, used),
+    /// The refusal where a name isn't held or the result is short: first for a partition of any
+    /// pair, then for a key of any pair, then for what a field carries, then for the result.
+    pub(crate) fn last_refusal(&self, space: &[u64], used: Used) -> Option<u32> {
+        let failed = match self.variant {
+            Variant::NamesPairByPair => self.first_pair_by_pair(space, used),
+            _ => self.first_failed(space, used),
         };
-        place.map(|place| self.variant.refusal_of(used.operation, place))
+        failed.map(|test| self.variant.refusal_of(used.operation, test))
     }
 
-    fn first_lacked(&self, space: &[u64], used: Used) -> Option<Lacked> {
-        let mut places = self.variant.places_in_order().into_iter();
-        places.find(|place| self.lacks(space, used, *place))
+    fn first_failed(&self, space: &[u64], used: Used) -> Option<Test> {
+        let mut tests = self.variant.tests_in_order(used.operation).iter().copied();
+        tests.find(|test| self.fails(space, used, *test))
     }
 
     /// A slip: everything of one pair comes before anything of the next.
-    fn first_pair_by_pair(&self, space: &[u64], used: Used) -> Option<Lacked> {
+    fn first_pair_by_pair(&self, space: &[u64], used: Used) -> Option<Test> {
         let of_pair = |pair| Used {
             pairs: std::slice::from_ref(pair),
             fields: &[],
             ..used
         };
         let mut pairs = used.pairs.iter();
-        let first = pairs.find_map(|pair| self.first_lacked(space, of_pair(pair)));
-        first.or_else(|| self.first_lacked(space, used))
+        let first = pairs.find_map(|pair| self.first_failed(space, of_pair(pair)));
+        first.or_else(|| self.first_failed(space, used))
     }
 
-    fn lacks(&self, space: &[u64], used: Used, place: Lacked) -> bool {
-        let mut pairs = self.variant.pairs_asked(place, used.pairs).iter();
+    fn fails(&self, space: &[u64], used: Used, test: Test) -> bool {
+        let mut pairs = self.variant.pairs_asked(test, used.pairs).iter();
         let lacked_in_field = |such: fn(Field) -> bool| {
             let fields = used
                 .fields
@@ -70,18 +70,22 @@ impl Reference {
                 .filter(|field| such(*field))
                 .any(|field| self.lacks_carried(space, used.party, field))
         };
-        match place {
-            Lacked::Partition => {
+        match test {
+            Test::Partitions => {
                 pairs.any(|pair| !self.variant.holds_set(space, used.party, pair.set))
                     || self.variant == Variant::CarriedPartitionBy13
                         && lacked_in_field(|field| matches!(field, Field::Partition(_)))
             }
-            Lacked::Key => {
+            Test::Keys => {
                 pairs.any(|pair| !holds_key(space, used.party, pair.key))
                     || self.variant == Variant::CarriedKeyBy14
                         && lacked_in_field(|field| matches!(field, Field::Key(_)))
             }
-            Lacked::Field => lacked_in_field(|_| true),
+            Test::Carried => lacked_in_field(|_| true),
+            Test::Result => {
+                let needed = self.variant.words_needed(used.fields.len());
+                used.result_len.is_some_and(|lent| lent < needed)
+            }
         }
     }
 
@@ -97,34 +101,41 @@ impl Reference {
             _ => false,
         }
     }
-
-    /// Whether the party holds every name, asked at once as before these were told apart.
-    fn holds_all(&self, space: &[u64], used: Used) -> bool {
-        let party = used.party;
-        let holds_pair = |pair: &Pair| {
-            self.variant.holds_set(space, party, pair.set) && holds_key(space, party, pair.key)
-        };
-        let holds_name_of = |word: &u64| match Field::from_word(*word) {
-            Some(Field::Partition(partition)) => holds_partition(space, party, partition),
-            Some(Field::Key(key)) => holds_key(space, party, key),
-            _ => true,
-        };
-        used.pairs.iter().all(holds_pair) && used.fields.iter().all(holds_name_of)
-    }
 }
 
 impl Variant {
-    fn places_in_order(self) -> [Lacked; 3] {
-        match self {
-            Variant::KeysBeforePartitions => [Lacked::Key, Lacked::Partition, Lacked::Field],
-            Variant::CarriedBeforeKeys => [Lacked::Partition, Lacked::Field, Lacked::Key],
-            Variant::CarriedFirst => [Lacked::Field, Lacked::Partition, Lacked::Key],
-            _ => [Lacked::Partition, Lacked::Key, Lacked::Field],
+    /// The order of the table, but for slips.
+    fn tests_in_order(self, operation: Option<Operation>) -> &'static [Test] {
+        use Test::{Carried, Keys, Partitions, Result};
+        match (self, operation) {
+            (Variant::TestsResultBeforeNames, _)
+            | (Variant::LookTestsResultFirst, Some(Operation::Look))
+            | (Variant::ReceiveTestsResultFirst, Some(Operation::Receive))
+            | (Variant::TakeTestsResultFirst, Some(Operation::Take)) => {
+                &[Result, Partitions, Keys, Carried]
+            }
+            (Variant::TestsResultBeforeKeys, _) => &[Partitions, Result, Keys, Carried],
+            (Variant::TestsResultBeforeCarried, _) => &[Partitions, Keys, Result, Carried],
+            (Variant::TestsResultLate, _) => &[Partitions, Keys, Carried],
+            (Variant::LookNeedsNoNames, Some(Operation::Look)) => &[Result],
+            (Variant::KeysBeforePartitions, _) => &[Keys, Partitions, Carried, Result],
+            (Variant::CarriedBeforeKeys, _) => &[Partitions, Carried, Keys, Result],
+            (Variant::CarriedFirst, _) => &[Carried, Partitions, Keys, Result],
+            _ => &[Partitions, Keys, Carried, Result],
         }
     }
 
-    fn refusal_of(self, operation: Option<Operation>, place: Lacked) -> u32 {
-        let [partition, key, field] = match (self, operation) {
+    /// The result words that a template of so many fields needs.
+    fn words_needed(self, fields: usize) -> usize {
+        match self {
+            Variant::WantsOneMoreResultWord => fields + 1,
+            _ => fields,
+        }
+    }
+
+    fn refusal_of(self, operation: Option<Operation>, test: Test) -> u32 {
+        let [partitions, keys, carried] = match (self, operation) {
+            (Variant::OneRefusalForNames, _) => [7; 3],
             (Variant::Exchanges13And14, _) => [14, 13, 7],
             (Variant::Exchanges14And7, _) => [13, 7, 14],
             (Variant::Exchanges13And7, _) => [7, 14, 13],
@@ -133,22 +144,23 @@ impl Variant {
             (Variant::NamesOfLookBy7, Some(Operation::Look)) => [7; 3],
             _ => [13, 14, 7],
         };
-        match place {
-            Lacked::Partition => partition,
-            Lacked::Key => key,
-            Lacked::Field => field,
+        match test {
+            Test::Partitions => partitions,
+            Test::Keys => keys,
+            Test::Carried => carried,
+            Test::Result => 6,
         }
     }
 
     /// The pairs of which it is asked whether the name there is held: all but for slips, which
     /// forget one of a put's.
-    fn pairs_asked(self, place: Lacked, pairs: &[Pair]) -> &[Pair] {
+    fn pairs_asked(self, test: Test, pairs: &[Pair]) -> &[Pair] {
         let last = pairs.len() - 1;
-        match (self, place) {
-            (Variant::ReadSetAloneHeld, Lacked::Partition) => &pairs[..1],
-            (Variant::TakeSetAloneHeld, Lacked::Partition) => &pairs[last..],
-            (Variant::ReadKeyAloneHeld, Lacked::Key) => &pairs[..1],
-            (Variant::TakeKeyAloneHeld, Lacked::Key) => &pairs[last..],
+        match (self, test) {
+            (Variant::ReadSetAloneHeld, Test::Partitions) => &pairs[..1],
+            (Variant::TakeSetAloneHeld, Test::Partitions) => &pairs[last..],
+            (Variant::ReadKeyAloneHeld, Test::Keys) => &pairs[..1],
+            (Variant::TakeKeyAloneHeld, Test::Keys) => &pairs[last..],
             _ => pairs,
         }
     }

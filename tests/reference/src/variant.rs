@@ -172,8 +172,8 @@ pub enum Variant {
     WordAbove63InRowIsUnsound,
     /// Takes a row with a set without a partition below 32 for unsound.
     NoneBelow32InRowIsUnsound,
-    /// The table as it was before names were told apart, with one test by 7 for all of them: what
-    /// the comparison before and after goes by, and a blunder today.
+    /// All names by 7, as before they were told apart, and all else as it is now: what the
+    /// comparison before and after goes by, and a blunder today.
     OneRefusalForNames,
     /// Refuses by 13 for every name that isn't held.
     AllNamesBy13,
@@ -209,10 +209,23 @@ pub enum Variant {
     TakeKeyAloneHeld,
     /// Lets a set of several partitions have one that isn't held.
     OneOfSeveralIsForgiven,
-    /// Tests names before the result's length.
-    TestsNamesBeforeResult,
     /// Tests the party's live entries before names.
     TestsLimitBeforeNames,
+    /// The table as it was before names came before the result, with 6 before 13: what the
+    /// comparison before and after goes by, and a blunder today.
+    TestsResultBeforeNames,
+    /// Tests the result's length, by 6, between 13 and 14.
+    TestsResultBeforeKeys,
+    /// Between 14 and 7.
+    TestsResultBeforeCarried,
+    /// Before 13 in a look, and after 7 elsewhere.
+    LookTestsResultFirst,
+    /// The same of a receive.
+    ReceiveTestsResultFirst,
+    /// The same of a take.
+    TakeTestsResultFirst,
+    /// Refuses by 6 unless there are more result words than fields.
+    WantsOneMoreResultWord,
     /// An opening gives partition 0 to everybody.
     OpensWithPartition0,
     /// An opening gives it to nobody, not even where the roster lists it.
@@ -339,7 +352,7 @@ impl Variant {
     ];
 
     /// Slips about which name isn't held.
-    pub const NAME_SLIPS: [Variant; 20] = [
+    pub const NAME_SLIPS: [Variant; 19] = [
         Variant::OneRefusalForNames,
         Variant::AllNamesBy13,
         Variant::NamesOfPutBy7,
@@ -358,8 +371,19 @@ impl Variant {
         Variant::ReadKeyAloneHeld,
         Variant::TakeKeyAloneHeld,
         Variant::OneOfSeveralIsForgiven,
-        Variant::TestsNamesBeforeResult,
         Variant::TestsLimitBeforeNames,
+    ];
+
+    /// Slips about the test of the result's length. The one that tests it only once there is a match
+    /// is a blunder that the rules name.
+    pub const RESULT_SLIPS: [Variant; 7] = [
+        Variant::TestsResultBeforeNames,
+        Variant::TestsResultBeforeKeys,
+        Variant::TestsResultBeforeCarried,
+        Variant::LookTestsResultFirst,
+        Variant::ReceiveTestsResultFirst,
+        Variant::TakeTestsResultFirst,
+        Variant::WantsOneMoreResultWord,
     ];
 
     /// Slips about partition 0 and key 0. The one that takes a space without key 0 for sound is a

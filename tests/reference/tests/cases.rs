@@ -218,15 +218,15 @@ const REFUSED: [(u32, u32, Pair, &[u64], usize); 8] = [
     (3, 0, LOW_KEY, &[], 0),
     (4, 0, LOW_KEY, &[KIND_6], 0),
     (5, 0, ELSEWHERE, &[KIND_6], 0),
-    (6, 0, ELSEWHERE, &[PARTITION_9, 2], 1),
-    (13, 0, ELSEWHERE, &[PARTITION_9, 2], 2),
-    (14, 0, THERE, &[PARTITION_9, 2], 2),
-    (7, 0, HERE, &[PARTITION_9, 2], 2),
+    (13, 0, ELSEWHERE, &[PARTITION_9, 2], 1),
+    (14, 0, THERE, &[PARTITION_9, 2], 1),
+    (7, 0, HERE, &[PARTITION_9, 2], 1),
+    (6, 0, HERE, &[1, 2], 1),
 ];
 
 #[test]
 fn refusals_of_looks_receives_and_takes() {
-    for operation in [Operation::Look, Operation::Receive, Operation::Take] {
+    for operation in ALL {
         for (number, party, pair, fields, lent) in REFUSED {
             let query = Query {
                 party,
@@ -244,6 +244,99 @@ fn refusals_of_looks_receives_and_takes() {
             }
         }
     }
+}
+
+/// Templates of party 0, which holds partition 5 and key 4: pair, fields and the refusal where fewer
+/// result words are lent than there are fields.
+const SHORT: [(Pair, [u64; 2], u32); 12] = [
+    (HERE, [1, 2], 6),
+    (HERE, [WILDCARD, AT_LEAST], 6),
+    (SET_9, [1, 2], 13),
+    (THERE, [1, 2], 14),
+    (HERE, [1, PARTITION_9], 7),
+    (HERE, [KEY_MINUS_4, WILDCARD], 7),
+    // Several at once.
+    (ELSEWHERE, [1, 2], 13),
+    (SET_9, [1, PARTITION_9], 13),
+    (SET_9, [KEY_MINUS_4, 2], 13),
+    (THERE, [PARTITION_9, 2], 14),
+    (THERE, [WILDCARD, KEY_MINUS_4], 14),
+    (ELSEWHERE, [PARTITION_9, KEY_MINUS_4], 13),
+];
+
+/// What a reference answers to party 0 that lends so many words, in a space with an entry that it
+/// finds by `HERE`; a refused call may change no word.
+fn lent(variant: Variant, op: Operation, pair: Pair, fields: &[u64], words: usize) -> Answer {
+    let mut space = opening();
+    assert_eq!(put(&mut space, 1, THERE, &[1, 2]), Answer::Done);
+    let (before, mut result) = (space.clone(), vec![99; words]);
+    let query = Query {
+        party: 0,
+        pair,
+        fields,
+    };
+    let answer = Reference::with(variant).find(op, &mut space, query, &mut result);
+    if let Answer::Refused(_) = answer {
+        assert_eq!((space, result), (before, vec![99; words]));
+    }
+    answer
+}
+
+#[test]
+fn a_short_result_beside_names_that_lack() {
+    for (pair, fields, number) in SHORT {
+        for operation in ALL {
+            let answer = |variant, words| lent(variant, operation, pair, &fields, words);
+            let what = format!("{operation:?}, {pair:?}, {fields:?}");
+            let enough = match number {
+                6 => Answer::Found(2),
+                _ => Answer::Refused(number),
+            };
+            for words in 0..5 {
+                let (due, before) = match words < 2 {
+                    true => (Answer::Refused(number), Answer::Refused(6)),
+                    false => (enough, enough),
+                };
+                assert_eq!(answer(Variant::Correct, words), due, "{what}, {words}");
+                let by_old_table = answer(Variant::TestsResultBeforeNames, words);
+                assert_eq!(by_old_table, before, "{what}, {words}");
+            }
+        }
+    }
+}
+
+/// What a slip answers to a look, a receive and a take with a short result that lacks a partition, a
+/// key, and a name in a field.
+#[test]
+fn what_the_slips_make_of_a_short_result() {
+    let (right, first) = ([13, 14, 7], [6; 3]);
+    for (variant, due) in [
+        (Variant::Correct, [right; 3]),
+        (Variant::TestsResultBeforeNames, [first; 3]),
+        (Variant::TestsResultBeforeKeys, [[13, 6, 6]; 3]),
+        (Variant::TestsResultBeforeCarried, [[13, 14, 6]; 3]),
+        (Variant::LookTestsResultFirst, [first, right, right]),
+        (Variant::ReceiveTestsResultFirst, [right, first, right]),
+        (Variant::TakeTestsResultFirst, [right, right, first]),
+        (Variant::WantsOneMoreResultWord, [right; 3]),
+        (Variant::OneRefusalForNames, [[7; 3]; 3]),
+    ] {
+        let lacking = [(SET_9, 1), (THERE, 1), (HERE, PARTITION_9)];
+        let answers =
+            ALL.map(|op| lacking.map(|(pair, field)| lent(variant, op, pair, &[field], 0)));
+        assert_eq!(
+            answers,
+            due.map(|of_op| of_op.map(Answer::Refused)),
+            "{variant:?}"
+        );
+    }
+    let with = |variant, words| lent(variant, Operation::Look, HERE, &[1, 2], words);
+    let one_more = Variant::WantsOneMoreResultWord;
+    assert_eq!(with(one_more, 2), Answer::Refused(6));
+    assert_eq!(with(one_more, 3), Answer::Found(2));
+    assert_eq!(with(Variant::TestsResultLate, 1), Answer::Refused(6));
+    let none = lent(Variant::TestsResultLate, Operation::Look, HERE, &[1, 3], 1);
+    assert_eq!(none, Answer::None);
 }
 
 /// Puts by party 0, which holds partition 5 and key 4: read pair, take pair, fields and the refusal.
@@ -619,19 +712,19 @@ fn examples_of_the_refusals() {
     assert_eq!(put(&mut space, 0, DEFAULT, &[1; 9]), Answer::Refused(3));
     assert_eq!(put(&mut space, 0, LOW_KEY, &[1]), Answer::Refused(4));
     assert_eq!(put(&mut space, 0, DEFAULT, &[WILDCARD]), Answer::Refused(5));
+    let elsewhere = receive(&mut space, 0, ELSEWHERE, &[1]).0;
+    assert_eq!(elsewhere, Answer::Refused(13));
+    assert_eq!(look(&mut space, 0, THERE, &[1]).0, Answer::Refused(14));
+    assert_eq!(put(&mut space, 0, HERE, &[PARTITION_9]), Answer::Refused(7));
     let two_fields = Query {
         party: 0,
-        pair: DEFAULT,
+        pair: HERE,
         fields: &[1, 2],
     };
     assert_eq!(
         reference.find(Operation::Receive, &mut space, two_fields, &mut [99]),
         Answer::Refused(6)
     );
-    let elsewhere = receive(&mut space, 0, ELSEWHERE, &[1]).0;
-    assert_eq!(elsewhere, Answer::Refused(13));
-    assert_eq!(look(&mut space, 0, THERE, &[1]).0, Answer::Refused(14));
-    assert_eq!(put(&mut space, 0, HERE, &[PARTITION_9]), Answer::Refused(7));
     assert_eq!(reference.open(&mut space, &[0; 15]), Answer::Refused(9));
     let mut bit_63 = [0; 16];
     bit_63[15] = 1 << 63;
