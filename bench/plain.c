@@ -508,11 +508,11 @@ INLINE uint32_t prepare(struct template *t, const uint64_t *s, uint32_t party, u
         } else return 105;
     }
     finish(t);
-    if (room < n) return 106;
     uint32_t refusal = lacking(s, party, set, key, key);
     if (refusal) return refusal;
-    if (!kinds) return 0;
+    if (!kinds) return room < n ? 106 : 0; /* by itself, so that the kinds are looked at once */
     if (kinds != 4 && !rights_held(s, party, f, low(n))) return OF_FIELD; /* not for bounds alone */
+    if (room < n) return 106;
     return kinds >= 4 ? BOUNDED : 0;
 }
 

@@ -80,6 +80,8 @@ static inline uint64_t a_near_set(uint64_t set)
     return at < 4 ? set : at < 6 ? one : at < 8 ? one | other : at < 9 ? other & ~set : other;
 }
 
+static inline uint64_t a_name(void) { return seldom(2) ? PARTITION_FIELD + a_partition() : KEY_FIELD + 28 + below(6); }
+
 static inline uint64_t a_field(int in_template)
 {
     uint32_t at = below(1000);
@@ -90,7 +92,7 @@ static inline uint64_t a_field(int in_template)
     if (at < 850) return below(3);
     if (at < 870) return UINT32_MAX;
     if (at < 880) return (uint32_t)any64();
-    return at < 940 ? PARTITION_FIELD + a_partition() : KEY_FIELD + 28 + below(6);
+    return a_name();
 }
 
 /* where in a row the pair is that a look, a receive or a take goes by */
@@ -132,18 +134,35 @@ static inline void a_roster(struct call *c)
     if (seldom(4)) c->list[below(ROSTER)] |= 1ull << 63;
 }
 
-/* A put that its party is allowed, under a partition that it holds. */
-static inline void a_plain_put(struct call *c, const uint64_t *space)
+/* Under a partition that the party holds. */
+static inline void with_held_sets(struct call *c, const uint64_t *space)
 {
     if (c->party < PARTIES) c->set[0] = c->set[1] = one_of(space[PARTITIONS_AT + c->party]);
+}
+
+/* A put that its party is allowed. */
+static inline void a_plain_put(struct call *c, const uint64_t *space)
+{
+    with_held_sets(c, space);
     c->key[0] = c->key[1] = 0;
     for (uint32_t i = 0; i < MOST_FIELDS; i++) c->list[i] = below(3);
+}
+
+/* A result that is too short; every second time with a set that is held and a name in a field, which the party may lack. */
+static inline void a_short_result(struct call *c, const uint64_t *space)
+{
+    uint32_t count = (uint32_t)c->count;
+    if (seldom(2)) {
+        with_held_sets(c, space);
+        c->list[below(count)] = a_name();
+    }
+    c->room = below(count);
 }
 
 static inline void a_call(struct call *c, const uint64_t *space, uint32_t percent_puts)
 {
     uint32_t at = below(1000);
-    int some_rows = space[0] - 1 < ROWS;
+    int some_rows = space[0] - 1 < ROWS, names_alone = seldom(30);
     c->kind = at < 5 ? OPEN : at < 10 * percent_puts ? PUT : a_seek();
     c->party = seldom(200) ? (uint32_t)any64() : below(PARTIES);
     for (uint32_t i = 0; i < 2; i++) {
@@ -154,9 +173,11 @@ static inline void a_call(struct call *c, const uint64_t *space, uint32_t percen
     c->count = seldom(60) ? below(12) : below(3) ? 1 + below(2) : 1 + below(MOST_FIELDS);
     c->room = seldom(30) ? below(MOST_FIELDS) : MOST_FIELDS;
     if (c->kind == OPEN) a_roster(c);
-    else for (uint32_t i = 0; i < 18; i++) c->list[i] = a_field(c->kind != PUT);
+    else for (uint32_t i = 0; i < 18; i++) c->list[i] = names_alone ? a_name() : a_field(c->kind != PUT);
+    if (names_alone && seldom(2)) with_held_sets(c, space); /* several are lacked at once, and no set */
     if (c->kind == PUT && percent_puts > 90 && seldom(2)) a_plain_put(c, space);
     if (c->kind > PUT && some_rows && seldom(2)) a_match(c, space);
+    if (c->kind > PUT && seldom(20)) a_short_result(c, space);
     if (seldom(200)) c->space_len = lengthened(c->space_len);
     if (seldom(100)) c->count = lengthened(c->count);
     if (seldom(100)) c->room = lengthened(c->room);

@@ -1,7 +1,8 @@
 /* The proved library against plain C, call by call, on the machine that this runs on: the answer, every word of space and result,
    what was lent to be read, and guard words around all of it. By itself it is seen that an opening gives what the roster says and key 0,
    that no call is refused for a damage that nobody has done, that a look leaves every word of the space, that whoever receives or takes
-   a name holds it, and that a name which isn't held is refused by its own number. Calls at random come first, then each of the 128 rows
+   a name holds it, that a name which isn't held is refused by its own number, also where the result is too short, and that 106 is said
+   of every result that is too short where nothing else is wrong, and of no other. Calls at random come first, then each of the 128 rows
    in its turn. Prints how often each answer was seen in the calls at random and a hash of their sequence, which is the same on every
    machine. Ends with status 1 where the two differ, or where something was never tried. */
 #include "calls.h"
@@ -94,13 +95,18 @@ enum { BY_ANOTHER_SET, BY_UPPER, KEPT_AWAY, HELD_IN_PART, EMPTY_SET, SET_MEETING
 static uint32_t by_sets[KINDS][SET_MEETINGS];
 
 /* What a call lacks, a bit each; the pair of a template counts as that for reading. Of calls that were refused for it: how often each was
-   lacked, with what else. Of calls that were refused by 106, and of puts with 16 live entries: how often something was. */
+   lacked, with what else. Of those with too short a result, by kind of call, and of puts with 16 live entries: by which number. */
 enum { READ_SET_LACKED = 1, READ_KEY_LACKED = 2, TAKE_SET_LACKED = 4, TAKE_KEY_LACKED = 8, PARTITION_LACKED = 16, KEY_LACKED = 32, LACKS = 64 };
 #define SETS_LACKED (READ_SET_LACKED | TAKE_SET_LACKED)
 #define KEYS_LACKED (READ_KEY_LACKED | TAKE_KEY_LACKED)
-static uint32_t refused_for[KINDS][LACKS], short_and_lacking[KINDS], full_and_lacking[3]; /* of these by 113, 114, 107 */
+enum { BY_113, BY_114, BY_107, FOR_NAMES };
+static uint32_t refused_for[KINDS][LACKS], short_and_lacking[KINDS][FOR_NAMES], full_and_lacking[FOR_NAMES];
 
-/* Of a call that is tested for names: not refused by a lower number than 106. */
+/* Of calls that were refused by 106, so that they lacked nothing: what their templates carry. */
+enum { NO_NAMES, BOUNDS_ALONE, NAMES_HELD, CARRIED };
+static uint32_t short_alone[KINDS][CARRIED];
+
+/* Of a call that is tested for names: not refused by 101 to 105. */
 static uint32_t lacked_by(const struct call *c, const uint64_t *space)
 {
     uint32_t all = 0;
@@ -115,7 +121,8 @@ static uint32_t lacked_by(const struct call *c, const uint64_t *space)
 
 static uint32_t refusal_for(uint32_t lacked) { return lacked & SETS_LACKED ? 113 : lacked & KEYS_LACKED ? 114 : lacked ? 107 : 0; }
 static int is_for_name(uint32_t answer) { return answer == 107 || answer == 113 || answer == 114; }
-static int is_after_names(uint32_t answer) { return answer <= MOST_FIELDS || answer == 108 || is_for_name(answer); }
+static int is_after_names(uint32_t answer) { return answer <= MOST_FIELDS || answer == 106 || answer == 108 || is_for_name(answer); }
+static int is_short(const struct call *c) { return c->kind > PUT && c->room < c->count; }
 
 static void hash_in(uint64_t word) { hash = (hash ^ word) * 0x100000001b3u; }
 
@@ -166,12 +173,22 @@ static void count_refused(const struct call *c, uint32_t answer)
 
 static void count_names(const struct call *c, uint32_t answer)
 {
-    if (c->kind == OPEN || (answer != 106 && !is_for_name(answer))) return;
-    uint32_t lacked = lacked_by(c, earlier), live = 0;
-    if (answer == 106) short_and_lacking[c->kind] += lacked > 0;
-    else refused_for[c->kind][lacked]++;
+    if (c->kind == OPEN || !is_for_name(answer)) return;
+    uint32_t by = answer == 113 ? BY_113 : answer == 114 ? BY_114 : BY_107, live = 0;
+    refused_for[c->kind][lacked_by(c, earlier)]++;
+    short_and_lacking[c->kind][by] += is_short(c);
     for (uint32_t r = 0; c->kind == PUT && r < earlier[0]; r++) live += earlier[row_at(r) + WRITER] == c->party;
-    full_and_lacking[answer == 113 ? 0 : answer == 114 ? 1 : 2] += live == SHARE;
+    full_and_lacking[by] += live == SHARE;
+}
+
+static void count_short(const struct call *c, uint32_t answer)
+{
+    uint32_t names = 0, bounds = 0;
+    for (uint32_t i = 0; answer == 106 && i < c->count; i++) {
+        names += c->list[i] >= PARTITION_FIELD && c->list[i] < WILDCARD;
+        bounds += is_bound(c->list[i]);
+    }
+    short_alone[c->kind][names ? NAMES_HELD : bounds ? BOUNDS_ALONE : NO_NAMES] += answer == 106;
 }
 
 static void count_opening(const uint64_t *roster)
@@ -240,6 +257,7 @@ static void count(const struct call *c, uint32_t answer)
     count_bounds(c, answer);
     count_sets(c, answer);
     count_names(c, answer);
+    count_short(c, answer);
     if (c->kind != OPEN) count_without_0(c, answer);
     else if (answer == 0) count_opening(c->list);
     lacked[c->kind] += lacking(c, answer, earlier) > 0;
@@ -270,8 +288,11 @@ static const char *difference(uint32_t by_library, uint32_t by_c, const struct c
         if (proved.space[i] != earlier[i]) return "space after a look";
     if (now->kind == OPEN && by_library == 0 && !opened_by(now->list)) return "holdings";
     if (now->kind > LOOK && lacking(now, by_library, proved.space)) return "names";
-    if (now->kind != OPEN && is_after_names(by_library)
-        && refusal_for(lacked_by(now, earlier)) != (is_for_name(by_library) ? by_library : 0)) return "refusal for a name";
+    if (now->kind != OPEN && is_after_names(by_library)) {
+        uint32_t for_name = refusal_for(lacked_by(now, earlier));
+        if (for_name != (is_for_name(by_library) ? by_library : 0)) return "refusal for a name";
+        if (!for_name && is_short(now) != (by_library == 106)) return "refusal for the result's length";
+    }
     for (uint32_t i = 0; i < GUARDS; i++)
         if (proved.before[i] != guard(i) || proved.between[i] != guard(GUARDS + i) || proved.after[i] != guard(2 * GUARDS + i)) return "guards";
     for (uint32_t i = 0; i < 18; i++)
@@ -448,9 +469,27 @@ static int all_lacked(const char *const *names)
         ok &= seen == all;
     }
     ok &= tried("put refused, lacking just the key for reading and a partition for taking:", refused_for[PUT][READ_KEY_LACKED | TAKE_SET_LACKED]);
-    ok &= tried("put with 16 live entries, refused by 113:", full_and_lacking[0]) & tried("by 114:", full_and_lacking[1]);
-    ok &= tried("by 107:", full_and_lacking[2]) & tried("lacking a name, and refused by 106, look:", short_and_lacking[LOOK]);
-    return ok & tried("receive:", short_and_lacking[RECEIVE]) & tried("take:", short_and_lacking[TAKE]);
+    ok &= tried("put with 16 live entries, refused by 113:", full_and_lacking[BY_113]) & tried("by 114:", full_and_lacking[BY_114]);
+    return ok & tried("by 107:", full_and_lacking[BY_107]);
+}
+
+static int all_short(const char *const *names)
+{
+    static const unsigned numbers[FOR_NAMES] = {113, 114, 107};
+    static const char *const carried[CARRIED] = {"no names in its fields", "bounds and no names", "names, all held"};
+    int ok = 1;
+    for (uint32_t kind = LOOK; kind < KINDS; kind++) {
+        char what[72];
+        for (uint32_t i = 0; i < FOR_NAMES; i++) {
+            snprintf(what, sizeof what, "%s, a short result and a name lacked, refused by %u:", names[kind], numbers[i]);
+            ok &= tried(what, short_and_lacking[kind][i]);
+        }
+        for (uint32_t i = 0; i < CARRIED; i++) {
+            snprintf(what, sizeof what, "%s refused by 106, lacking nothing, %s:", names[kind], carried[i]);
+            ok &= tried(what, short_alone[kind][i]);
+        }
+    }
+    return ok;
 }
 
 static int all_without_0(const char *const *names)
@@ -506,7 +545,7 @@ static int all_tried(void)
             snprintf(what, sizeof what, "%s, %s:", names[kind], sets[m]);
             ok &= tried(what, by_sets[kind][m]);
         }
-    ok &= all_lacked(names) & all_without_0(names);
+    ok &= all_lacked(names) & all_short(names) & all_without_0(names);
     ok &= tried("lengths of 2^32 and more, space:", long_space) & tried("roster:", long_roster) & tried("fields:", long_fields);
     ok &= tried("result, and found:", long_result) & tried("bit 63 in a roster:", bound_63);
     printf("most live rows %u%s\n", (unsigned)most_rows, most_rows == ROWS ? "" : " FAILED: never full");
