@@ -1,6 +1,7 @@
 /* Many small workloads, each one call, for bench/compare: every count of live entries, every length and form of template, wherever the
-   match is, each refusal, wherever a name stands that isn't held, sets of several partitions, and openings. Prints or dumps a line for
-   each: its name, what the call answers, and its instructions. Compiled with the header of the library that is counted.
+   match is, each refusal, wherever a name stands that isn't held, also with a result that is too short, sets of several partitions, and
+   openings. Prints or dumps a line for each: its name, what the call answers, and its instructions. Compiled with the header of the
+   library that is counted.
 
    On a board, under `-icount shift=10`, an instruction takes 1,024 ns of the emulated clock and a tick of SysTick 40, so that the
    ticks of a single call give its instructions exactly. On the desk callgrind dumps its count under the workload's name. */
@@ -138,15 +139,22 @@ static void templates(uint32_t live, uint32_t n, int names)
         }
 }
 
+static void lacking(uint32_t live, uint32_t n, const char *what)
+{
+    char text[60];
+    snprintf(text, sizeof text, "%s%s not held", call.room < n ? "a short result and " : "", what);
+    called(live, n, text);
+}
+
 /* Nobody holds partition 40 and key 9. */
 static void unheld(uint32_t live, uint32_t n)
 {
     uint64_t word = fields[n - 1];
-    call.set = ONE(40), called(live, n, "a partition not held");
-    call.key = 9, called(live, n, "a partition and a key not held"), call.set = ONE(0);
-    called(live, n, "a key not held"), call.key = 0;
-    fields[n - 1] = PARTITION(40), called(live, n, "a partition in a field not held");
-    fields[n - 1] = STORED_KEY(40), called(live, n, "a key in a field not held"), fields[n - 1] = word;
+    call.set = ONE(40), lacking(live, n, "a partition");
+    call.key = 9, lacking(live, n, "a partition and a key"), call.set = ONE(0);
+    lacking(live, n, "a key"), call.key = 0;
+    fields[n - 1] = PARTITION(40), lacking(live, n, "a partition in a field");
+    fields[n - 1] = STORED_KEY(40), lacking(live, n, "a key in a field"), fields[n - 1] = word;
 }
 
 /* Rows that the pair or the count leaves at once, and refusals. */
@@ -157,7 +165,7 @@ static void misses(uint32_t live, uint32_t n)
     call.set = ONE(3), called(live, n, "another partition"), call.set = ONE(0);
     call.key = -31, called(live, n, "another key"), call.key = 0;
     call.set = OUT_OF_RANGE, called(live, n, "refused by 4"), call.set = ONE(0);
-    call.room = n - 1, called(live, n, "refused by 6"), call.room = 8;
+    call.room = n - 1, called(live, n, "refused by 6"), unheld(live, n), call.room = 8;
     call.party = 8, called(live, n, "refused by 2"), call.party = 0;
     fields[n - 1] = BAD, called(live, n, "a bad word");
     for (uint32_t i = 0; i < 8; i++) fields[i] = ANY;

@@ -48,6 +48,8 @@ static uint32_t take_oldest_put(void)
 static uint32_t look_no_set(void) { return space_look(space, WORDS, 0, SET(40), 0, last, 8, result, 8); }
 static uint32_t look_no_key(void) { return space_look(space, WORDS, 0, SET(0), 9, last, 8, result, 8); }
 static uint32_t look_no_field(void) { return space_look(space, WORDS, 0, SET(0), 0, unheld, 8, result, 8); }
+static uint32_t look_short(void) { return space_look(space, WORDS, 0, SET(0), 0, last, 8, result, 7); }
+static uint32_t look_short_no_key(void) { return space_look(space, WORDS, 0, SET(0), 9, last, 8, result, 7); }
 static uint32_t take_no_set(void) { return space_take(space, WORDS, 0, SET(40), 0, last, 8, result, 8); }
 static uint32_t take_no_key(void) { return space_take(space, WORDS, 0, SET(0), 9, last, 8, result, 8); }
 static uint32_t take_no_field(void) { return space_take(space, WORDS, 0, SET(0), 0, unheld, 8, result, 8); }
@@ -128,6 +130,8 @@ static const struct workload {
     {'P', 0, LATE_ROUND, 1 + 6, start_order},
     {'Q', 0, PARTY_8, 116, start_order},
     {'R', 0, PAIRS_65, 115, start_order},
+    {'S', 128, RISING, 106, look_short},
+    {'T', 128, RISING, 114, look_short_no_key},
 };
 enum { WORKLOADS = sizeof workloads / sizeof *workloads };
 
