@@ -16,7 +16,7 @@ ghost use Rattle.rules.specs.Calls.{firstThatApplies, badPair, putTable, seekTa
 ghost use Rattle.rules.specs.Words.{decode, sound, badRoster};
 ghost use Rattle.words.specs.Kind.{plain};
 ghost use Rattle.held.specs.Verdicts.{verdict};
-ghost use Rattle.refusals.specs.Admissions.{firstTests, begun, refusalIn, admittedAs, admittedBy, boundsIn};
+ghost use Rattle.refusals.specs.Admissions.{firstTests, begun, refusalIn, admittedBy, boundsIn};
 
 // What becomes of a look, receive or take. Where it passes, the search has to know whether the template has bounds.
 pub enum Admission {
@@ -102,13 +102,6 @@ pub fn of_seek(
     if room < template.len() {
         return Admission::Refused(6);
     }
-    admitted(unbounded)
-}
-
-// The answer where no test applies.
-fn admitted(unbounded: bool) -> Admission
-    ensures { λ r. ⌜ r ≡ admittedAs unbounded ⌝ }
-{
     if unbounded {
         Admission::Plain
     } else {

@@ -1,7 +1,7 @@
 -- `of_seek` meets its contract: past each test that fails, the rest of the table decides, and by its verdict the call is admitted.
 use Prim.Native.Nat.{ℕ}
 use mathlib.Core.Path.{_≡_, refl, sym, ap, _∙_}
-use mathlib.Core.Bool.{false, not}
+use mathlib.Core.Bool.{Bool, true, false, not}
 use mathlib.Core.List.{[], _∷_, _++_}
 use mathlib.Core.Option.{none}
 use borrow.Author.Tests.{lt-ltb, le-ltb}
@@ -186,17 +186,22 @@ returns-5 : tie.Need-returns-5
 unfolding whole seekTable
 returns-5 c = ap (admits (names-start (passed-names (c .before)))) (past-8 (c .before) (Refused 6) (decides _ 6 _ (lt-ltb _ _ (c .if3 .taken))))
 
-admitted-requires : tie.Need-admitted-requires
-admitted-requires c κs = search needs
+-- past all tests, by whether the fields are plain
+admitted : (c : tie.Else3) (b : Bool) → names-fields (passed-names (c .before)) .before .before .plain-fields .result ≡ b
+    → admittedAs b ≡ admits (names-start (passed-names (c .before))) (verdict (whole (names-start (passed-names (c .before)))))
+unfolding whole seekTable
+admitted c b e =
+    let at = passed-names (c .before) in
+    ap admittedAs (sym e ∙ names-fields at .before .before .plain-fields .ensures)
+    ∙ ap (admits (names-start at)) (past-8 (c .before) _ (leaves _ 6 _ _ (le-ltb _ _ (c .if3 .left)) passes))
 
 returns-6 : tie.Need-returns-6
-unfolding whole seekTable
-returns-6 c =
-    let told = c .before .before in
-    let at = passed-names told in
-    c .admitted .ensures
-    ∙ ap admittedAs (names-fields at .before .before .plain-fields .ensures)
-    ∙ ap (admits (names-start at)) (past-8 told _ (leaves _ 6 _ _ (le-ltb _ _ (c .before .if3 .left)) passes))
+unfolding whole
+returns-6 c = admitted (c .before) true (c .if4 .taken)
+
+returns-7 : tie.Need-returns-7
+unfolding whole
+returns-7 c = admitted (c .before) false (c .if4 .left)
 
 pub of-seek-spec : {M : Type 1} → statement M
 of-seek-spec =
@@ -217,5 +222,5 @@ of-seek-spec =
     returns-4
     enum-told-3
     returns-5
-    admitted-requires
-    returns-6)
+    returns-6
+    returns-7)
