@@ -49,17 +49,17 @@ badCount fs = eqb (length fs) 0 || ltb 8 (length fs)
 abbrev pub keysIn : List (Pair ℕ) → List Name
 keysIn ps = map (λ p. key (p .key)) ps
 
+-- R13, R14, R7, by whether the partitions of pairs, their keys and the names in fields are held
+abbrev pub heldTests : Bool → Bool → Bool → Table
+heldTests partitions keys carried = (not partitions, 13) ∷ (not keys, 14) ∷ (not carried, 7) ∷ []
+
 -- R6: fewer result words than fields
 abbrev pub shortTest : List ℕ → ℕ → Table
 shortTest t room = (ltb room (length t), 6) ∷ []
 
--- R8: the party's entries that are live are as many as may be
+-- R8: as many of the party's entries are live as may be
 abbrev pub fullTest : State → ℕ → Table
 fullTest s who = (leb (limitOf s who) (live who (s .entries)), 8) ∷ []
-
--- R13, R14, R7, by whether the partitions of pairs, their keys and the names in fields are held
-abbrev pub heldTests : Bool → Bool → Bool → Table
-heldTests partitions keys carried = (not partitions, 13) ∷ (not keys, 14) ∷ (not carried, 7) ∷ []
 
 -- the tests that ask what the partition word of a pair stands for
 module _ (R : Reading) where
@@ -95,10 +95,11 @@ module _ (R : Reading) where
       ∷ (not (all templateField t), 5)
       ∷ left
 
-  -- R2 to R8, R13, R14: the tables
+  -- C7: the table of a put: R2 to R5, R13, R14, R7, R8
   unfoldable pub putTable : State → ℕ → Pair ℤ → Pair ℤ → List ℕ → Table
   putTable s who r t fs = putTests (nameTests s who (storedPair r ∷ storedPair t ∷ []) fs ++ fullTest s who) who r t fs
 
+  -- C7: the table of a look, receive or take: R2 to R5, R13, R14, R7, R6
   unfoldable pub seekTable : State → ℕ → Pair ℤ → List ℕ → ℕ → Table
   seekTable s who p t room = seekTests (nameTests s who (storedPair p ∷ []) t ++ shortTest t room) who p t
 
