@@ -1,12 +1,14 @@
 // The soundness test of a space: one pass over its words, which also counts each writer's entries.
 // Counters are u32, since the board's core has 32 bits.
+#![tactic(auto)]
+
 ghost use Rattle.std.specs.Prelude.{◌≡◌, ◌≤◌, length, get_or, drop};
 ghost use Rattle.rules.specs.Lists.{all};
 ghost use Rattle.rules.specs.Words.{row_start, zeros, decode, is_zero, holdings_ok};
 ghost use Rattle.audit.specs.Audited.{audited, AfterRows};
 
 // Whether a space is sound and, if so, how many live entries the party has.
-#[derive(Drop)]
+#[derive(Clone, Copy)]
 pub enum Finding {
     Unsound,
     Sound(u32),

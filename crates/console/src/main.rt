@@ -1,4 +1,6 @@
 // The console: reads standard input, hands each line to the session, and writes what it prints.
+#![tactic(auto)]
+
 use session::Turn;
 
 fn main() {

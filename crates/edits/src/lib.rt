@@ -1,4 +1,6 @@
 // The edits of a space's rows: one added, one removed, fields copied out.
+#![tactic(auto)]
+
 ghost use Rattle.std.specs.Prelude.{◌≡◌, true, [], ◌∷◌, ◌++◌, suc, ◌-◌, ◌<◌, ◌≤◌, length, take, drop, get_or};
 ghost use Rattle.rules.specs.State.{with_entries};
 ghost use Rattle.rules.specs.Words.{zeros, row_of, encode, decode, sound};

@@ -1,5 +1,6 @@
 // Every refusal of a roster file, and for every two neighbours of the table one that both would turn away.
 // A line says what is wrong with the file, its answer, and whether a word of the roster has changed.
+#![tactic(auto)]
 
 fn main() {
     words_lent();

@@ -1,5 +1,7 @@
 // Whether a party holds the names that a call uses: the tests of refusals 13, 14 and 7. Counters are u32, since the board's core
 // has 32 bits.
+#![tactic(auto)]
+
 ghost use Rattle.std.specs.Prelude.{◌≡◌, true, [], ◌∷◌, ◌≤◌, ◌<◌, length};
 ghost use Rattle.rules.specs.Lists.{all};
 ghost use Rattle.rules.specs.Names.{key_in_range, stored, bit, held_in};
@@ -11,7 +13,7 @@ ghost use Rattle.rules.specs.Words.{decode};
 ghost use Rattle.held.specs.Verdicts.{verdict};
 
 // What the tests of a call decide: it passed them, or it is refused by a number.
-#[derive(Drop)]
+#[derive(Clone, Copy)]
 pub enum Verdict {
     Passed,
     Refused(u32),

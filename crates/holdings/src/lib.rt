@@ -1,4 +1,6 @@
 // The edits of a space's holdings: names held, and an opening.
+#![tactic(auto)]
+
 ghost use Rattle.std.specs.Prelude.{◌≡◌, true, map, ◌≤◌, ◌<◌, length};
 ghost use Rattle.rules.specs.Names.{with_bit};
 ghost use Rattle.rules.specs.Fields.{field, name_in, names_in};

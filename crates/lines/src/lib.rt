@@ -1,4 +1,6 @@
 // Reading a line of the console: seven items, as a gift to the roster or as a call.
+#![tactic(auto)]
+
 ghost use Rattle.std.specs.Prelude.{◌≡◌, cond, List, ℕ, leb, length};
 ghost use Rattle.std.proofs.Math.Option.{none, some};
 ghost use Rattle.rules.specs.Names.{key_in_range, stored};
@@ -16,41 +18,41 @@ use search::Op;
 use text::{Fields, Number, Partitions, SignedNumber};
 
 // A part of a line, from its first byte to the one past its last.
-#[derive(Drop)]
+#[derive(Clone, Copy)]
 struct Part {
     start: usize,
     end: usize,
 }
 
 // T12: what a gift has of a partition or of a stored key.
-#[derive(Drop)]
+#[derive(Clone, Copy)]
 pub enum Gift {
     Missing,
     Name(u64),
 }
 
-#[derive(Drop)]
+#[derive(Clone, Copy)]
 enum ReadGift {
     Value(Gift),
     Unreadable,
 }
 
 // T11: the operation that a word names.
-#[derive(Drop)]
+#[derive(Clone, Copy)]
 enum ReadOp {
     Value(Op),
     Unreadable,
 }
 
 // A set of partitions and a key.
-#[derive(Drop)]
+#[derive(Clone, Copy)]
 enum ReadPair {
     Value(u64, i32),
     Unreadable,
 }
 
 // C2 to C4, C8: a call. Its number of fields comes last; their words are the first of those lent.
-#[derive(Drop)]
+#[derive(Clone, Copy)]
 pub enum Call {
     // The party, the read pair, the take pair.
     Put(u32, u64, i32, u64, i32, usize),
@@ -59,7 +61,7 @@ pub enum Call {
 }
 
 // T11: what a line asks for.
-#[derive(Drop)]
+#[derive(Clone, Copy)]
 pub enum Line {
     Unreadable,
     // The party, a partition, a key.

@@ -1,4 +1,6 @@
 // Text as bytes: its parts, its start, texts compared, decimal numbers of any length, read and rendered, and refusals.
+#![tactic(auto)]
+
 ghost use Rattle.std.specs.Prelude.{◌≡◌, true, ◌+◌, ◌*◌, ◌≤◌, length, drop};
 ghost use Rattle.numbers.specs.Numbers as numbers;
 ghost use Rattle.numbers.specs.Numbers.{is_digit, starts_well, decimal, decimal_key, key_of, refusal_text};
@@ -7,7 +9,7 @@ ghost use Rattle.numbers.specs.Written.{Written};
 ghost use Rattle.numbers.specs.Answers.{natural_of, whole_of, UpTo, positive_in, negative_in, with_digit, BeginsAs};
 
 // What a text reads as, as a natural number of any length. A large one is above what the caller asked for.
-#[derive(Drop)]
+#[derive(Clone, Copy)]
 pub enum Natural {
     Value(u32),
     Large,
@@ -15,7 +17,7 @@ pub enum Natural {
 }
 
 // What a text reads as, as a whole number of any length. 32 bits don't hold a large one.
-#[derive(Drop)]
+#[derive(Clone, Copy)]
 pub enum Whole {
     Value(i32),
     Large,
@@ -23,7 +25,7 @@ pub enum Whole {
 }
 
 // Where the lines after the names line begin.
-#[derive(Drop)]
+#[derive(Clone, Copy)]
 pub enum Beginning {
     At(usize),
     Bad,

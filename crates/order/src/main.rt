@@ -1,4 +1,5 @@
 // The program `order`: reads a file of pairs from standard input and prints the start order, or a party on a circle, or the refusal.
+#![tactic(auto)]
 
 fn main() {
     let mut input = [0u8; 4097];

@@ -1,4 +1,6 @@
 // Pairs from a file: the pairs of its lines, and what they come to.
+#![tactic(auto)]
+
 ghost use Rattle.std.specs.Prelude.{◌≡◌, [], ◌≤◌, length, drop};
 ghost use Rattle.numbers.specs.Parts.{parts};
 ghost use Rattle.start_order.specs.Answers.{Settled};
@@ -9,14 +11,14 @@ use numbers::{Beginning, Natural};
 use start_order::Start;
 
 // The pair of a line, as its word.
-#[derive(Drop)]
+#[derive(Clone, Copy)]
 enum Line {
     Pair(u64),
     Unreadable,
 }
 
 // How many words of pairs were kept.
-#[derive(Drop)]
+#[derive(Clone, Copy)]
 enum Reading {
     Pairs(usize),
     Unreadable,

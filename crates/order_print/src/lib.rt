@@ -1,4 +1,6 @@
 // What is printed of a file of pairs.
+#![tactic(auto)]
+
 ghost use Rattle.std.specs.Prelude.{◌+◌, ◌≤◌, length};
 ghost use Rattle.numbers.specs.Written.{Written};
 ghost use Rattle.order_print.specs.Printed.{parties_text, order_text, circle_text, output};

@@ -1,5 +1,6 @@
 // Every refusal of the start order and of a file of pairs, and for every two neighbours of the table one that both would turn away.
 // A line says the call and what is wrong with it; then its answer and whether a result word has changed, or what is printed of the file.
+#![tactic(auto)]
 
 // The pair "a before b" is the word a * BEFORE + b.
 const BEFORE: u64 = 4294967296;

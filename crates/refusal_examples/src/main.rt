@@ -1,5 +1,7 @@
 // Every refusal of an opening and of a put, and for every two neighbours of the table one that both would turn away.
 // A line says the call, what is wrong with it, its answer, and whether a word of the space has changed.
+#![tactic(auto)]
+
 use refusal_lines::{
     AT_LEAST, AT_MOST, EMPTY, KEY, KIND_6, PARTITION, SET_0, SET_5, SET_5_6, SET_6, SET_OF_ALL,
     WILDCARD,

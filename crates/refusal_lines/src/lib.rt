@@ -1,4 +1,6 @@
 // What the programs with the refused calls share: a space to make calls on, its damaged copies, and the line printed of a call.
+#![tactic(auto)]
+
 ghost use Rattle.std.specs.Prelude.{◌≡◌, ◌&&◌, [], ◌∷◌, pos, set, take};
 ghost use Rattle.rules.specs.Matching.{pair};
 ghost use Rattle.rules.specs.Calls.{put};

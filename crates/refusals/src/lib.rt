@@ -1,5 +1,7 @@
 // When a call is turned away: the tests in the table's order, of which the first that applies decides. Counters are u32,
 // since the board's core has 32 bits.
+#![tactic(auto)]
+
 ghost use Rattle.std.specs.Prelude.{◌≡◌, not, ◌∷◌, ◌≤◌, length};
 ghost use Rattle.rules.specs.Lists.{all};
 ghost use Rattle.rules.specs.Partitions.{sets};
@@ -16,7 +18,7 @@ use audit::Finding;
 use held::Verdict;
 
 // What becomes of a look, receive or take. Where it passes, the search has to know whether the template has bounds.
-#[derive(Drop)]
+#[derive(Clone, Copy)]
 pub enum Admission {
     Plain,
     Bounded,
@@ -24,7 +26,7 @@ pub enum Admission {
 }
 
 // What the tests that every call begins with come to: how many live entries the party has, or a refusal.
-#[derive(Drop)]
+#[derive(Clone, Copy)]
 enum Begun {
     Live(u32),
     Refused(u32),

@@ -1,4 +1,6 @@
 // The program `roster`: reads a station's roster file from standard input, opens a space with it and prints the roster back.
+#![tactic(auto)]
+
 use roster_print::SetUp;
 
 fn main() {

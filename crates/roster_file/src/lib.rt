@@ -1,4 +1,6 @@
 // A roster from a file: a usual line, and the whole file in one pass.
+#![tactic(auto)]
+
 ghost use Rattle.std.specs.Prelude.{◌≡◌, ◌≤◌, ◌<◌, length, drop};
 ghost use Rattle.numbers.specs.Parts.{parts};
 ghost use Rattle.roster_line.specs.Rights.{read_line};
@@ -9,28 +11,28 @@ use numbers::Beginning;
 use roster_line::Line;
 
 // D5: the roster is read, or the file is refused.
-#[derive(Drop)]
+#[derive(Clone, Copy)]
 pub enum Reading {
     Given,
     Refused(u32),
 }
 
 // The number of a usual line, and the place of the next line.
-#[derive(Drop)]
+#[derive(Clone, Copy)]
 enum Number {
     Value(u32, u32),
     Other,
 }
 
 // A usual line: a bit of a word of the roster, and the place of the next line. Any other line is read by its items.
-#[derive(Drop)]
+#[derive(Clone, Copy)]
 enum Usual {
     Right(usize, u64, u32),
     Other,
 }
 
 // D1, D5: the place of the next line, or the refusal.
-#[derive(Drop)]
+#[derive(Clone, Copy)]
 enum Step {
     Next(u32),
     Refused(u32),

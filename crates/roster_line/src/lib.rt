@@ -1,4 +1,6 @@
 // A line of a roster file: what it gives, and the bit of the roster's words that this is.
+#![tactic(auto)]
+
 ghost use Rattle.std.specs.Prelude.{◌≡◌, ◌≤◌};
 ghost use Rattle.numbers.specs.Answers.{UpTo};
 ghost use Rattle.roster_line.specs.Rights.{kind_of, read_line};
@@ -7,7 +9,7 @@ ghost use Rattle.roster_line.specs.Answers.{kind_in, partition_in, key_in, right
 use numbers::{Natural, Whole};
 
 // D2: what the number of a line is.
-#[derive(Drop)]
+#[derive(Clone, Copy)]
 enum Kind {
     Partition,
     Key,
@@ -15,7 +17,7 @@ enum Kind {
 }
 
 // The bit of a word that a number stands for.
-#[derive(Drop)]
+#[derive(Clone, Copy)]
 enum Bit {
     At(u64),
     Outside,
@@ -23,7 +25,7 @@ enum Bit {
 }
 
 // What a line says: a bit of a word of the roster, or its refusal.
-#[derive(Drop)]
+#[derive(Clone, Copy)]
 pub enum Line {
     Right(usize, u64),
     Refused(u32),

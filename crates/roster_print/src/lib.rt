@@ -1,4 +1,6 @@
 // What is printed of a roster, and the setting up of a space from a roster file.
+#![tactic(auto)]
+
 ghost use Rattle.std.specs.Prelude.{◌≡◌, [], ◌∷◌, ◌++◌, map, ◌+◌, ◌<◌, ◌≤◌, length};
 ghost use Rattle.numbers.specs.Written.{Written};
 ghost use Rattle.roster_file.specs.File.{read_file};
@@ -9,14 +11,14 @@ ghost use Rattle.roster_print.specs.Answers.{named, printed_by, SetUpBy};
 use roster_file::Reading;
 
 // Whether a word's bits are partitions or keys.
-#[derive(Drop)]
+#[derive(Clone, Copy)]
 enum Kind {
     Partition,
     Key,
 }
 
 // D7: the space is open, or the file is refused; that many bytes are to be printed.
-#[derive(Drop)]
+#[derive(Clone, Copy)]
 pub enum SetUp {
     Open(usize),
     Refused(usize),

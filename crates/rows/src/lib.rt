@@ -1,4 +1,6 @@
 // One row of the table: whether its words are sound. Counters are u32, since the board's core has 32 bits.
+#![tactic(auto)]
+
 ghost use Rattle.std.specs.Prelude.{◌≡◌, ◌≤◌, length, drop};
 ghost use Rattle.rules.specs.Lists.{all};
 ghost use Rattle.rules.specs.Fields.{put_field};

@@ -1,5 +1,5 @@
 -- Keys from -31 to 31: the stored key is key + 31 and at most 62, and the co-key is in range and stored as 62 less.
-use Prim.Native.Nat.{ℕ, zero, suc, ◌-◌, ◌≤◌}
+use Prim.Native.Nat.{ℕ, zero, suc, ◌≤◌}
 use mathlib.Core.Path.{◌≡◌, refl, sym, ◌∙◌}
 use mathlib.Core.Bool.{true, false, not, and-true}
 use native.Mathlib.Omega.{arith}

@@ -45,6 +45,7 @@ pub refused-in : (n : ℕ) → In n numbers → In (refused n) missing
 refused-in n (inl e) = inl (ap refused e)
 refused-in n (inr (inl e)) = inr (inl (ap refused e))
 refused-in n (inr (inr (inl e))) = inr (inr (inl (ap refused e)))
+refused-in n (inr (inr (inr e))) = elim e [ ]
 
 -- what the three say, by whether all names are held: nothing, or one of their numbers
 abbrev pub NamesSay : Bool → Option ℕ → Type 0

@@ -1,5 +1,5 @@
 -- Sets of one partition: every call answers what the rules give with single partitions compared for equality (M7).
-use mathlib.Core.Path.{◌≡◌, refl, sym, ap, ap₂, ◌∙◌}
+use mathlib.Core.Path.{◌≡◌, refl, sym, ap, ap₂, ◌∙◌, subst}
 use mathlib.Core.Logic.{◌⊎◌, inl, inr, ◌≢◌}
 use mathlib.Core.Bool.{Bool, true, false, ◌||◌, cond}
 use mathlib.Core.Option.{Option, none, some}
@@ -48,7 +48,7 @@ keep_one c i (suc n) h l = go (bool (eqb c i)) (keep_one c (suc i) n)
   where
     go : (eqb c i ≡ true) ⊎ (eqb c i ≡ false) → (suc i ≤ c → c < suc i + n → keep (eqb c) (from (suc i) n) ≡ c ∷ [])
         → keep (eqb c) (from i (suc n)) ≡ c ∷ []
-    go (inl e) r = rw (eqb-true c i e, eqb_same i) (ap (λ l. i ∷ l) (keep-none i (suc i) n (omega arith)))
+    go (inl e) r = subst (λ (j : ℕ). keep (eqb c) (from j (suc n)) ≡ c ∷ []) (eqb-true c i e) (rw (eqb_same c) (ap (λ l. c ∷ l) (keep-none c (suc c) n (omega arith))))
     go (inr e) r = let n : c ≢ i = λ q. clash (eqb c i) (rw q (eqb_same i)) e in rw e (r (omega arith) (omega arith))
 
 only-bits : (c : ℕ) → c ≤ 63 → bits_in (only c) ≡ c ∷ []

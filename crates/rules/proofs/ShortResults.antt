@@ -19,7 +19,7 @@ use Rattle.rules.specs.State.{holds}
 use Rattle.rules.specs.Calls.{Call, put, seek, refused, Table, first_that_applies, name_tests, short_test, seek_tests}
 use Rattle.rules.specs.Words.{decode, sound, asked, Exit, call, refusals}
 use Rattle.rules.specs.Claims.{Passes, used_names, OnlyShort, SixExactlyIfOnlyShort}
-use Rattle.rules.specs.Earlier.{missing, short_first, ShortAndLacking, Moves, NamesFirst, NamesComeFirst}
+use Rattle.rules.specs.Earlier.{short_first, ShortAndLacking, Moves, NamesFirst, NamesComeFirst}
 use Rattle.rules.proofs.ListLaws.{clash, not-false, passed}
 use Rattle.rules.proofs.NameTests.{numbers, refused-in, NamesSay, names-say}
 use Rattle.rules.proofs.Tables.{either, in_order, either-after, neither, first-within, applies-first, six, seek-order}
@@ -30,6 +30,7 @@ not-six : (n : ℕ) → In n numbers → ¬ (n ≡ 6)
 not-six n (inl i) e = omega arith
 not-six n (inr (inl i)) e = omega arith
 not-six n (inr (inr (inl i))) e = omega arith
+not-six n (inr (inr (inr i))) e = elim i [ ]
 
 -- the same exit, of a call that doesn't move
 alike : (moves : Type 0) (x : Exit) → ¬ moves → NamesFirst moves x x

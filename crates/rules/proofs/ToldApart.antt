@@ -37,6 +37,7 @@ other : (n : ℕ) → n ≤ 8 → (7 ≡ n → ⊥) → ¬ (OfNames (some n))
 other n few q (inl e) = omega arith
 other n few q (inr (inl e)) = omega arith
 other n few q (inr (inr (inl e))) = q e
+other n few q (inr (inr (inr e))) = elim e [ ]
 
 -- a test that both tables have
 beside : (b : Bool) (n : ℕ) → ¬ (OfNames (some n)) → (ts us : Table) → Told ts us → Told ((b, n) ∷ ts) ((b, n) ∷ us)
@@ -78,11 +79,13 @@ number_in : (n : ℕ) → In (refused n) missing → In n numbers
 number_in n (inl e) = inl cc
 number_in n (inr (inl e)) = inr (inl cc)
 number_in n (inr (inr (inl e))) = inr (inr (inl cc))
+number_in n (inr (inr (inr e))) = elim e [ ]
 
 served-not-in : (a : Answer) → unrefused a ≡ true → ¬ (In a missing)
 served-not-in a u (inl e) = clash (unrefused a) u (ap unrefused (sym e))
 served-not-in a u (inr (inl e)) = clash (unrefused a) u (ap unrefused (sym e))
 served-not-in a u (inr (inr (inl e))) = clash (unrefused a) u (ap unrefused (sym e))
+served-not-in a u (inr (inr (inr e))) = elim e [ ]
 
 -- the same exit, whose answer is no test's of names
 same-exit : (x : Exit) → ¬ (In x.answer missing) → ToldApart x x

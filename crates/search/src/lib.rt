@@ -1,5 +1,7 @@
 // The search for the oldest entry that matches a template. Counters, and words that a sound space keeps small, are u32,
 // since the board's core has 32 bits.
+#![tactic(auto)]
+
 ghost use Rattle.std.specs.Prelude.{◌≡◌, true, not, ◌≤◌, length, get_or};
 ghost use Rattle.rules.specs.Names.{co_stored};
 ghost use Rattle.rules.specs.Lists.{all};
@@ -12,7 +14,7 @@ ghost use Rattle.words.specs.Kind.{plain};
 ghost use Rattle.search.specs.Pairs.{offset, SmallAt, pair_at};
 
 // C3, C4, C8: what the search is for.
-#[derive(Drop)]
+#[derive(Clone, Copy)]
 pub enum Op {
     Looking,
     Receiving,
@@ -20,7 +22,7 @@ pub enum Op {
 }
 
 // The place of the oldest match among the live entries.
-#[derive(Drop)]
+#[derive(Clone, Copy)]
 pub enum Found {
     At(usize),
     Nothing,

@@ -1,5 +1,7 @@
 // Every refusal of a look, a receive and a take, and for every two neighbours of the table one that both would turn away.
 // A line says the call, what is wrong with it, its answer, and whether a word of space or result has changed.
+#![tactic(auto)]
+
 use refusal_lines::{
     AT_LEAST, AT_MOST, EMPTY, KEY, KIND_6, PARTITION, SET_0, SET_0_5, SET_5, SET_5_6, SET_6,
     SET_OF_ALL, WILDCARD,

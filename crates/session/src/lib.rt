@@ -1,4 +1,6 @@
 // What the console does with its input, line by line.
+#![tactic(auto)]
+
 mod replies;
 
 ghost use Rattle.std.specs.Prelude.{◌≡◌, cond, ◌<◌, ◌≤◌, length, drop};
@@ -14,28 +16,28 @@ use search::Op;
 use space::Answer;
 
 // T20: whether the space is open, and how many calls were made.
-#[derive(Drop)]
+#[derive(Clone, Copy)]
 pub struct Session {
     pub opened: bool,
     pub calls: u64,
 }
 
 // T20: the line is unreadable, or the session goes on and that many bytes are printed.
-#[derive(Drop)]
+#[derive(Clone, Copy)]
 enum Step {
     Unreadable,
     Next(Session, usize),
 }
 
 // T22, T25: where a line begins, and its number.
-#[derive(Drop)]
+#[derive(Clone, Copy)]
 pub struct LineStart {
     pub at: usize,
     pub number: u64,
 }
 
 // T25: the input is done with, or the next line begins there; that many bytes are printed.
-#[derive(Drop)]
+#[derive(Clone, Copy)]
 pub enum Turn {
     Stop(usize),
     Go(LineStart, Session, usize),

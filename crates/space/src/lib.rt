@@ -1,4 +1,6 @@
 // The five calls of the space: open, put, look, receive and take.
+#![tactic(auto)]
+
 ghost use Rattle.std.specs.Prelude.{◌≡◌, [], ◌++◌, ◌<◌, ◌≤◌, length, drop};
 ghost use Rattle.rules.specs.Matching.{pair, looking, receiving, taking};
 ghost use Rattle.rules.specs.Calls.{put, seek};
@@ -11,7 +13,7 @@ use refusals::Admission;
 use search::{Found, Op};
 
 // C5: what a call answers.
-#[derive(Drop)]
+#[derive(Clone, Copy)]
 pub enum Answer {
     Done,
     Found(usize),
@@ -20,7 +22,7 @@ pub enum Answer {
 }
 
 // What a look, receive or take finds: the place of the oldest match, none, or a refusal.
-#[derive(Drop)]
+#[derive(Clone, Copy)]
 enum Sought {
     At(usize),
     Nothing,

@@ -1,4 +1,6 @@
 // The five calls, the reading of a roster and the start order, for programs in C, exported as include/space.h declares them.
+#![tactic(auto)]
+
 ghost use Rattle.std.specs.Prelude.{◌≡◌, []};
 ghost use Rattle.rules.specs.Matching.{pair, looking, receiving, taking};
 ghost use Rattle.rules.specs.Calls.{put, seek};

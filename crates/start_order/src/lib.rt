@@ -1,4 +1,6 @@
 // The start order: from pairs "a before b" the order in which to start the eight programs, or a party on a circle.
+#![tactic(auto)]
+
 ghost use Rattle.std.specs.Prelude.{◌≡◌, true, false, not, map, ◌≤◌, ◌<◌, length, get_or};
 ghost use Rattle.std.proofs.Math.Option.{some};
 ghost use Rattle.rules.specs.Lists.{any, first};
@@ -9,7 +11,7 @@ ghost use Rattle.start_order.specs.Call.{above7, call_on};
 ghost use Rattle.start_order.specs.Answers.{relation_of, Sets, gathered, next_in, Arranged, joined_by, Settled};
 
 // O4: an order, or the smallest party on a circle, or the refusal.
-#[derive(Drop)]
+#[derive(Clone, Copy)]
 pub enum Start {
     Order,
     Circle(u32),
@@ -17,7 +19,7 @@ pub enum Start {
 }
 
 // O3: the party for the next place.
-#[derive(Drop)]
+#[derive(Clone, Copy)]
 enum Next {
     Party(u32),
     Stuck,

@@ -1,4 +1,6 @@
 // Where each of the 128 rows starts: the list that the service display has.
+#![tactic(auto)]
+
 ghost use Rattle.std.specs.Prelude.{◌≡◌, ◌≤◌, ◌<◌, length};
 ghost use Rattle.rules.specs.Words.{row_start};
 ghost use Rattle.starts.specs.Listed.{listed};

@@ -1,4 +1,6 @@
 // The console's text: numbers, sets of partitions, fields and lists of fields read from bytes, and fields rendered to bytes.
+#![tactic(auto)]
+
 ghost use Rattle.std.specs.Prelude.{◌≡◌, ◌+◌, ◌≤◌, length};
 ghost use Rattle.numbers.specs.Written.{Written};
 ghost use Rattle.text.specs.Numbers.{unsigned, signed};
@@ -10,35 +12,35 @@ use numbers::{Natural, Whole};
 use words::Field;
 
 // What a text reads as, as an unsigned number.
-#[derive(Drop)]
+#[derive(Clone, Copy)]
 pub enum Number {
     Value(u32),
     Unreadable,
 }
 
 // What a text reads as, as a signed number.
-#[derive(Drop)]
+#[derive(Clone, Copy)]
 pub enum SignedNumber {
     Value(i32),
     Unreadable,
 }
 
 // What a text reads as, as the set of partitions of a pair.
-#[derive(Drop)]
+#[derive(Clone, Copy)]
 pub enum Partitions {
     Set(u64),
     Unreadable,
 }
 
 // What a text reads as, as one field: its word.
-#[derive(Drop)]
+#[derive(Clone, Copy)]
 pub enum Word {
     Field(u64),
     Unreadable,
 }
 
 // What a text reads as, as a list of fields: how many.
-#[derive(Drop)]
+#[derive(Clone, Copy)]
 pub enum Fields {
     Count(usize),
     Unreadable,

@@ -1,4 +1,6 @@
 // Words: the bits of sets and holdings, the kinds of field words, stored keys.
+#![tactic(auto)]
+
 ghost use Rattle.std.specs.Prelude.{◌≡◌, true, ◌<◌, length};
 ghost use Rattle.rules.specs.Lists.{all};
 ghost use Rattle.rules.specs.Names.{bit, bits_in, with_bit, set_bit, held_in, key_in_range, co_key, stored};
@@ -7,7 +9,7 @@ ghost use Rattle.rules.specs.Fields.{field, put_field, template_field, name_in, 
 ghost use Rattle.words.specs.Kind.{meant, plain};
 
 // What a field word is.
-#[derive(Drop)]
+#[derive(Clone, Copy)]
 pub enum Field {
     Message(u64),
     Partition(u64),
