@@ -14,12 +14,13 @@ CORES = {"cortex-m4": "thumbv7em", "cortex-m0plus": "thumbv6m"}
 ARM_LAYOUT = "e-m:e-p:32:32-Fi8-i64:64-v128:64:128-a:0:32-n32-S64"
 DESK_LAYOUT = "e-m:e-p270:32:32-p271:32:32-p272:64:64-i64:64-i128:128-f80:128-n8:16:32:64-S128"
 DESK_TRIPLE = "x86_64-unknown-linux-gnu"
-DESK_ATTRIBUTES = ' "probe-stack"="inline-asm" "target-cpu"="x86-64"'
+DESK_ATTRIBUTES = ' "probe-stack"="inline-asm" "stack-probe-size"="3072" "target-cpu"="x86-64-v2"'
 POINTER = 8  # bytes that a pointer has on the desk; on the board it has four of them, and the others are padding
 
 VALUE = r'(?:%[\w.]+|-?\d+|true|false)'
 INT = r'(?:i1|i8|i16|i32|i64)'
 TYPE = r'(?:i1|i8|i16|i32|i64|ptr)'
+NUMBERS = rf'\{{ {INT}(?:, {INT})* \}}'  # several numbers side by side, as both layouts place them: each at a multiple of its size
 NAME = r'@(?:"[\w:]+"|\w+)'
 NOTES = r'(?:, !(?:noundef|range) !\d+)*'  # and so none that a pointer isn't null: where the length is 0 it may be
 ARGUMENTS = rf'(?:{TYPE} {VALUE}(?:, {TYPE} {VALUE})*)?'
@@ -27,7 +28,8 @@ PARAMETER = rf'(?:{TYPE} noundef|i1 noundef zeroext) %\w+'
 PARAMETERS = rf'(?:{PARAMETER}(?:, {PARAMETER})*)?'
 
 # Every form of line that the module may have. Numbers are compared and computed with as numbers of their own width; a pointer
-# is only stored, loaded, passed on and moved by a count of bytes. So no ptrtoint, no comparison of pointers, no size of a type.
+# is only stored, loaded, passed on, moved by a count of bytes and compared with null. So no ptrtoint, no comparison of two pointers,
+# no size of a type. Where memory is filled, it is with zeros, which are 0 and null in every width.
 FORMS = {
     "blank": r"",
     "comment": r"; .*",
@@ -39,21 +41,25 @@ FORMS = {
     "attributes": r"attributes #\d+ = \{.*\}",
     "metadata": r"!(?:[\w.]+|\d+) = !\{.*\}",
     "declare": r"declare void @llvm\.memmove\.p0\.p0\.i64\(ptr writeonly captures\(none\), ptr readonly captures\(none\), i64, i1 immarg\) #\d+",
-    "define": rf"define (?P<own>internal )?(?:noundef (?:zeroext )?)?(?P<gives>void|{INT}) (?P<name>{NAME})\((?P<takes>{PARAMETERS})\) #0 {{",
+    "declare fill": r"declare void @llvm\.memset\.p0\.i64\(ptr writeonly captures\(none\), i8, i64, i1 immarg\) #\d+",
+    "define": rf"define (?P<own>internal )?(?:noundef (?:zeroext )?)?(?P<gives>void|{INT}|{NUMBERS}) (?P<name>{NAME})\((?P<takes>{PARAMETERS})\) #0 {{",
     "slot": rf"  (?P<to>%\w+) = alloca (?:{TYPE}|\[(?P<bytes>\d+) x i8\]), align [1248]",
     "part": rf"  (?P<to>%\w+) = getelementptr (?:inbounds )?(?:nuw )?i8, ptr (?P<of>%\w+), i64 (?P<by>{VALUE})",
-    "load": rf"  (?P<to>%\w+) = load (?P<what>{TYPE}), ptr (?P<of>%\w+), align [1248]{NOTES}",
+    "load": rf"  (?P<to>%\w+) = load (?P<what>{TYPE}|{NUMBERS}), ptr (?P<of>%\w+), align [1248]{NOTES}",
     "store": rf"  store (?P<what>{TYPE}) (?P<value>{VALUE}), ptr (?P<of>%\w+), align [1248]",
     "compute": rf"  %\w+ = (?:add|sub|mul|udiv|urem|and|or|xor|shl|lshr|ashr)(?: nuw| nsw| exact| disjoint)* {INT} {VALUE}, {VALUE}",
     "compare": rf"  %\w+ = icmp (?:eq|ne|[us][lg][te]) {INT} {VALUE}, {VALUE}",
+    "null": r"  %\w+ = icmp eq ptr %\w+, null",
+    "one of several": rf"  %\w+ = extractvalue {NUMBERS} %\w+, \d+",
     "resize": rf"  %\w+ = (?:zext|sext|trunc)(?: nuw| nsw| nneg)* {INT} {VALUE} to {INT}",
     "copy": r"  call void @llvm\.memmove\.p0\.p0\.i64\(ptr (?P<into>%\w+), ptr (?P<of>%\w+), i64 (?P<size>\d+), i1 false\)",
-    "call": rf"  (?:%\w+ = )?call (?:void|{INT}) (?P<name>{NAME})\((?P<with>{ARGUMENTS})\)",
+    "fill": r"  call void @llvm\.memset\.p0\.i64\(ptr %\w+, i8 0, i64 \d+, i1 false\)",
+    "call": rf"  (?:%\w+ = )?call (?:void|{INT}|{NUMBERS}) (?P<name>{NAME})\((?P<with>{ARGUMENTS})\)",
     "branch": rf"  br (?:label %[\w.]+|i1 {VALUE}, label %[\w.]+, label %[\w.]+)",
     "switch": rf"  switch {INT} {VALUE}, label %[\w.]+ \[",
     "case": rf"    {INT} -?\d+, label %[\w.]+",
     "cases": r"  \]",
-    "return": rf"  ret (?:void|{INT} {VALUE})",
+    "return": rf"  ret (?:void|{INT} {VALUE}|{NUMBERS} %\w+)",
     "never": r"  unreachable",
 }
 FORMS = {name: re.compile(form) for name, form in FORMS.items()}
@@ -107,6 +113,18 @@ class Places:
 
 
 SIZE = {"i1": 1, "i8": 1, "i16": 2, "i32": 4, "i64": 8, "ptr": POINTER}
+
+
+def bytes_of(what):
+    """The bytes of a value in memory: of a number or a pointer, or of several numbers without what is left free between them."""
+    end, found = 0, []
+    for size in (SIZE[kind] for kind in re.findall(r"\w+", what)):
+        start = -(-end // size) * size
+        end = start + size
+        found += range(start, end)
+    return found
+
+
 LENT = 512  # bytes of a slot that are followed: a slice has 16, the words of a roster have 128, the list of row starts 512; a larger slot is refused
 
 
@@ -143,7 +161,7 @@ def refuse_mixed_slots(lines):
         elif form in ("load", "store"):
             if found["of"] in at:
                 base, offset = at[found["of"]]
-                for byte in range(SIZE[found["what"]]):
+                for byte in bytes_of(found["what"]):
                     places.seen((function, base, offset + byte), found["what"] == "ptr")
             elif found["what"] == "ptr":
                 raise Refused(f"line {number} of the module keeps a pointer outside a slot")
@@ -226,7 +244,7 @@ LOWERED = {"uint64_t *": "ptr", "const uint64_t *": "ptr", "const uint8_t *": "p
 def exported(source):
     """name -> (result, [parameter types]) that C has to declare for each function that the source exports."""
     found = {}
-    for name, takes, gives in re.findall(r'#\[no_mangle\]\npub extern "C" fn (\w+)\(([^()]*)\) -> (\w+)', source):
+    for name, takes, gives in re.findall(r'#\[unsafe\(no_mangle\)\]\npub extern "C" fn (\w+)\(([^()]*)\) -> (\w+)', source):
         kinds = [item.split(":", 1)[1].strip() for item in takes.split(",") if item.strip()]
         try:
             found[name] = FOR_C[gives][0], [word for kind in kinds for word in FOR_C[kind]]
@@ -263,7 +281,7 @@ def retarget(text, core):
     for line in swaps:
         if lines.count(line) != 1:
             raise Refused(f"the module should have this line once and has it {lines.count(line)} times: {line}")
-    if text.count("probe-stack") + text.count("target-cpu") + text.count("target-features") != 2:
+    if sum(text.count(word) for word in ("probe-stack", "stack-probe", "target-cpu", "target-features", "tune-cpu")) != 3:
         raise Refused("the module names the desk's processor in more lines than one")
     return "\n".join(swaps.get(line, line) for line in lines)
 

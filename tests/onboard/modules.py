@@ -10,25 +10,31 @@ import tempfile
 TRUE = {
     "module": pathlib.Path(sys.argv[1]).read_text(),
     "header": pathlib.Path("include/space.h").read_text(),
-    "source": pathlib.Path("crates/space_c/src/lib.rt").read_text(),
+    "source": pathlib.Path("crates/space_c_c/src/lib.rt").read_text(),
 }
+# in space_open, where %r0 is the slot of a lent slice, %a0 and %a2 are pointers, and %a1 is a length
+CALL = '  %r18 = call i32 @"space_c_c::space_open"('
 # what is wrong, the file, the text once, the text instead, words of the refusal
 DOCTORED = [
-    ("a pointer as a number", "module", "  ret i32 %r4\n", "  %x = ptrtoint ptr %r0 to i64\n  ret i32 %r4\n", "no kind"),
-    ("a number as a pointer", "module", "  ret i32 %r4\n", "  %x = inttoptr i64 %a1 to ptr\n  ret i32 %r4\n", "no kind"),
-    ("pointers compared", "module", "  ret i32 %r4\n", "  %x = icmp eq ptr %a0, %a2\n  ret i32 %r4\n", "no kind"),
+    ("a pointer as a number", "module", CALL, "  %x = ptrtoint ptr %r0 to i64\n" + CALL, "no kind"),
+    ("a number as a pointer", "module", CALL, "  %x = inttoptr i64 %a1 to ptr\n" + CALL, "no kind"),
+    ("pointers compared", "module", CALL, "  %x = icmp eq ptr %a0, %a2\n" + CALL, "no kind"),
+    ("a pointer compared with a place", "module", CALL, "  %x = icmp eq ptr %a0, inttoptr (i64 8 to ptr)\n" + CALL, "no kind"),
+    ("memory filled with other than zeros", "module", CALL, "  call void @llvm.memset.p0.i64(ptr %r0, i8 1, i64 16, i1 false)\n" + CALL, "no kind"),
+    ("a pointer among several values", "module", CALL, "  %x = load { i8, ptr }, ptr %r0, align 8\n" + CALL, "no kind"),
+    ("several numbers where a pointer is", "module", CALL, "  %x = load { i8, i32 }, ptr %r0, align 8\n" + CALL, "now a pointer, now a number"),
     ("a step by the size of a pointer", "module", "getelementptr i8, ptr %r0, i64 8", "getelementptr ptr, ptr %r0, i64 1", "no kind"),
     ("a variable outside the functions", "module", "\n\n; Function", "\n\n@x = global i64 0\n\n; Function", "no kind"),
-    ("assembler", "module", "  ret i32 %r4\n", '  call void asm sideeffect "nop", ""()\n  ret i32 %r4\n', "no kind"),
-    ("a slot read as pointer and as number", "module", "  ret i32 %r4\n", "  %x = load i64, ptr %r0, align 8\n  ret i32 %r4\n", "now a pointer, now a number"),
-    ("half of a pointer read", "module", "  ret i32 %r4\n", "  %x = getelementptr i8, ptr %r0, i64 4\n  %y = load i32, ptr %x, align 4\n  ret i32 %r4\n", "now a pointer, now a number"),
+    ("assembler", "module", CALL, '  call void asm sideeffect "nop", ""()\n' + CALL, "no kind"),
+    ("a slot read as pointer and as number", "module", CALL, "  %x = load i64, ptr %r0, align 8\n" + CALL, "now a pointer, now a number"),
+    ("half of a pointer read", "module", CALL, "  %x = getelementptr i8, ptr %r0, i64 4\n  %y = load i32, ptr %x, align 4\n" + CALL, "now a pointer, now a number"),
     ("a slot of more bytes than are followed", "module", "alloca [512 x i8]", "alloca [520 x i8]", "more bytes than are followed"),
-    ("a pointer in a slot in which places are computed", "module", "  ret i32 %r4\n", "  %x = alloca [128 x i8], align 8\n  store ptr %a0, ptr %x, align 8\n  %y = getelementptr i8, ptr %x, i64 %a1\n  %z = load i64, ptr %y, align 8\n  ret i32 %r4\n", "now a pointer, now a number"),
-    ("a pointer kept in lent words", "module", "  ret i32 %r4\n", "  %x = load ptr, ptr %r0, align 8\n  store ptr %a0, ptr %x, align 8\n  ret i32 %r4\n", "outside a slot"),
+    ("a pointer in a slot in which places are computed", "module", CALL, "  %x = alloca [128 x i8], align 8\n  store ptr %a0, ptr %x, align 8\n  %y = getelementptr i8, ptr %x, i64 %a1\n  %z = load i64, ptr %y, align 8\n" + CALL, "now a pointer, now a number"),
+    ("a pointer kept in lent words", "module", CALL, "  %x = load ptr, ptr %r0, align 8\n  store ptr %a0, ptr %x, align 8\n" + CALL, "outside a slot"),
     ("another layout of the desk", "module", "-n8:16:32:64-S128", "-n8:16:32:64", "should have this line once"),
     ("a second line for the processor", "module", "attributes #1 = {", 'attributes #1 = { "target-cpu"="x86-64"', "more lines than one"),
     ("a pointer that is said not to be null", "module", "@space_open(ptr noundef %a0,", "@space_open(ptr noundef nonnull %a0,", "no kind"),
-    ("a loaded pointer that is said not to be null", "module", "  ret i32 %r4\n", "  %x = load ptr, ptr %r0, align 8, !nonnull !2\n  ret i32 %r4\n", "no kind"),
+    ("a loaded pointer that is said not to be null", "module", CALL, "  %x = load ptr, ptr %r0, align 8, !nonnull !2\n" + CALL, "no kind"),
     ("a length of 32 bits in the module", "module", "@space_open(ptr noundef %a0, i64 noundef", "@space_open(ptr noundef %a0, i32 noundef", "the module has"),
     ("lengths of size_t in the header", "header", "uint64_t space_len, const uint64_t *roster", "size_t space_len, const uint64_t *roster", "the header declares"),
     ("an unsigned key in the header", "header", "int32_t read_key", "uint32_t read_key", "the header declares"),
@@ -66,7 +72,7 @@ DOCTORED = [
     ("a comment that goes on", "header", "/* The kinds of", "// \\\n/* The kinds of", "goes on"),
     ("a file of words in the source", "source", "file: &[u8]", "file: &[u64]", "the header declares"),
     ("a file for which no type of C is known", "source", "file: &[u8]", "file: &[u16]", "no type of C"),
-    ("a call that the source doesn't export", "source", '#[no_mangle]\npub extern "C" fn space_put', 'pub extern "C" fn space_put', "the header declares"),
+    ("a call that the source doesn't export", "source", '#[unsafe(no_mangle)]\npub extern "C" fn space_put', 'pub extern "C" fn space_put', "the header declares"),
 ]
 # looks like declarations, and has none
 ALIKE = r"""
