@@ -9,7 +9,7 @@ use lib.ListN.{get_or}
 use Rattle.rules.specs.Lists.{In}
 use Rattle.rules.specs.Names.{parties, Name, partition, key, bits_in, held_in}
 use Rattle.rules.proofs.Members.{in_left, in_right, append-in, in_map, map-in}
-use Rattle.rules.proofs.SetLaws.{in-bits, bits_in}
+use Rattle.rules.proofs.SetLaws.{in-bits, bits_in_lem}
 use Rattle.rules.proofs.Loops.{all_append}
 use Rattle.numbers.specs.Numbers.{decimal, key_of}
 use Rattle.numbers.specs.Parts.{parts}
@@ -34,10 +34,10 @@ names_in_lem ps ks n h = go (append-in n (map partition (bits_in ps)) (map key (
     go : In n (map partition (bits_in ps)) ⊎ In n (map key (bits_in ks)) → (bit_of n < 64) × (held_in ps ks n ≡ true)
     go (inl i) =
         let m = map-in partition n (bits_in ps) i in
-        subst (λ (x : Name). (bit_of x < 64) × (held_in ps ks x ≡ true)) m.1.1 (bits_in ps m.0 m.1.0)
+        subst (λ (x : Name). (bit_of x < 64) × (held_in ps ks x ≡ true)) m.1.1 (bits_in_lem ps m.0 m.1.0)
     go (inr i) =
         let m = map-in key n (bits_in ks) i in
-        subst (λ (x : Name). (bit_of x < 64) × (held_in ps ks x ≡ true)) m.1.1 (bits_in ks m.0 m.1.0)
+        subst (λ (x : Name). (bit_of x < 64) × (held_in ps ks x ≡ true)) m.1.1 (bits_in_lem ks m.0 m.1.0)
 
 -- ---- the lines
 

@@ -12,7 +12,7 @@ use Rattle.roster_line.specs.Rights.{bit_of}
 use Rattle.roster_file.specs.File.{names_line}
 use Rattle.roster_file.specs.Printed.{name_text, right_text, names_text, party_text, parties_text, printed}
 use Rattle.rules.proofs.Members.{keep-short, All-in, from_in}
-use Rattle.roster_file.proofs.PrintedLines.{names_in, names_of}
+use Rattle.roster_file.proofs.PrintedLines.{names_in_lem, names_of}
 
 name-short : (n : Name) → bit_of n < 64 → length (name_text n) ≤ 5
 name-short (partition c) h = let l = decimal-short 1 c (omega arith) in omega arith
@@ -53,7 +53,7 @@ pub party-short : (roster : List ℕ) (who : ℕ) → who < 8 → length (party_
 unfolding party_text
 party-short roster who h =
     let ns : List Name = names_of roster who in
-    let k : All (λ n. bit_of n < 64) ns = All-in (λ n. bit_of n < 64) ns (λ n i. (names_in (get_or roster who 0) (get_or roster (8 + who) 0) n i).0) in
+    let k : All (λ n. bit_of n < 64) ns = All-in (λ n. bit_of n < 64) ns (λ n i. (names_in_lem (get_or roster who 0) (get_or roster (8 + who) 0) n i).0) in
     let a = names-short who h ns k in
     let b = names-few roster who in
     omega arith

@@ -24,7 +24,7 @@ use Rattle.roster_file.proofs.GivenRights.{gives_same, line-back}
 use Rattle.roster_file.proofs.RosterRights.{has, has-bit, word_low, Good, accepts-good, same-rights}
 use Rattle.roster_file.proofs.FileRights.{idle, names-idle, end-idle, file-fill, file-gives, accepted-opens}
 use Rattle.rules.proofs.Members.{in_left, append-in, in-from, from_in, All-in}
-use Rattle.roster_file.proofs.PrintedLines.{in-names, names_in, names_of, lines_of, LineOf, in_lines, lines-in, parties-parts, printed-parts}
+use Rattle.roster_file.proofs.PrintedLines.{in-names, names_in_lem, names_of, lines_of, LineOf, in_lines, lines-in, parties-parts, printed-parts}
 use Rattle.roster_file.proofs.PrintedShort.{printed-short}
 
 -- ---- lines that all give rights
@@ -58,7 +58,7 @@ module _ (r : List ℕ) (g : Good r) where
   line_low line o = from_in o.who 0 8 o.party
 
   line-held : (line : List ℕ) (o : LineOf r parties line) → has r o.who o.name ≡ true
-  line-held line o = (names_in (get_or r o.who 0) (get_or r (8 + o.who) 0) o.name o.held).1
+  line-held line o = (names_in_lem (get_or r o.who 0) (get_or r (8 + o.who) 0) o.name o.held).1
 
   right-back : (who : ℕ) (n : Name) → who < 8 → has r who n ≡ true → read_line (right_text who n) ≡ gives who n
   right-back who n h e = line-back who n (le_of_suc-le-suc h) (right-range r g who h n e)

@@ -80,6 +80,11 @@ not_at : {A : Type 0} → ◌⊎◌ (◌≡◌ {A = ℕ} 0 1) (◌≡◌ {A = �
 not_at (inl q) = absurd (omega arith)
 not_at (inr q) = absurd (omega arith)
 
+pub unfound : (s : Sought) → ((r : ℕ) → s ≡ At r → ⊥) → Unfound s
+unfound (At r) other = absurd (other r refl)
+unfound Nothing other = inl refl
+unfound (Refused n) other = inr refl
+
 pub unfound-granted : (s : Sought) (who n : ℕ) (ws : List ℕ) → Unfound s → ws ≡ granted s who n ws
 unfound-granted (At r) who n ws k = not_at k
 unfound-granted Nothing who n ws k = refl

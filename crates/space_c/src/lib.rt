@@ -1,4 +1,4 @@
-// The five calls, the reading of a roster and the start order, for programs in C, exported as include/space.h declares them.
+// The five calls, the reading of a roster and the start order, for programs in C: the crate space_c_c exports them as include/space.h declares them.
 #![tactic(auto)]
 
 ghost use Rattle.std.specs.Prelude.{◌≡◌, []};
@@ -14,16 +14,14 @@ use space::Answer;
 use start_order::Start;
 
 // C1
-#[unsafe(no_mangle)]
-pub extern "C" fn space_open(space: &mut [u64], roster: &[u64]) -> u32
+pub fn space_open(space: &mut [u64], roster: &[u64]) -> u32
     ensures { Left result space.new [] (opening space.old roster.now) }
 {
     code(space::open(space, roster))
 }
 
 // C2
-#[unsafe(no_mangle)]
-pub extern "C" fn space_put(
+pub fn space_put(
     space: &mut [u64],
     party: u32,
     read_partitions: u64,
@@ -46,8 +44,7 @@ pub extern "C" fn space_put(
 }
 
 // C8
-#[unsafe(no_mangle)]
-pub extern "C" fn space_look(
+pub fn space_look(
     space: &[u64],
     party: u32,
     partitions: u64,
@@ -61,8 +58,7 @@ pub extern "C" fn space_look(
 }
 
 // C3
-#[unsafe(no_mangle)]
-pub extern "C" fn space_receive(
+pub fn space_receive(
     space: &mut [u64],
     party: u32,
     partitions: u64,
@@ -76,8 +72,7 @@ pub extern "C" fn space_receive(
 }
 
 // C4
-#[unsafe(no_mangle)]
-pub extern "C" fn space_take(
+pub fn space_take(
     space: &mut [u64],
     party: u32,
     partitions: u64,
@@ -91,8 +86,7 @@ pub extern "C" fn space_take(
 }
 
 // D1 to D5: a roster from a file.
-#[unsafe(no_mangle)]
-pub extern "C" fn space_read_roster(file: &[u8], roster: &mut [u64]) -> u32
+pub fn space_read_roster(file: &[u8], roster: &mut [u64]) -> u32
     ensures { Read result roster.old roster.new (read_into file.now roster.old) }
 {
     if roster.len() != 16 {
@@ -106,8 +100,7 @@ pub extern "C" fn space_read_roster(file: &[u8], roster: &mut [u64]) -> u32
 }
 
 // O4, O5: the start order.
-#[unsafe(no_mangle)]
-pub extern "C" fn space_start_order(pairs: &[u64], res: &mut [u64]) -> u32
+pub fn space_start_order(pairs: &[u64], res: &mut [u64]) -> u32
     ensures { Started result res.old res.new (call_on pairs.now res.old) }
 {
     let start = start_order::start_order(pairs, res);

@@ -21,6 +21,7 @@ pub enum Field {
 }
 
 // F2: the one place that knows the kinds and their ranges.
+#[tactic(auto, unfolding(rules::specs::Fields::field))]
 pub fn field_of(w: u64) -> Field
     ensures { meant result ≡ field w }
 {
@@ -50,6 +51,7 @@ pub fn field_of(w: u64) -> Field
 }
 
 // F3
+#[tactic(auto, unfolding(rules::specs::Fields::put_field))]
 pub fn put_field(w: u64) -> bool
     ensures { result ≡ put_field w }
 {
@@ -66,6 +68,7 @@ pub fn put_field(w: u64) -> bool
 }
 
 // F4
+#[tactic(auto, unfolding(rules::specs::Fields::template_field))]
 pub fn template_field(w: u64) -> bool
     ensures { result ≡ template_field w }
 {
@@ -82,6 +85,7 @@ pub fn template_field(w: u64) -> bool
 }
 
 // F2: a field of a template that is no bound.
+#[tactic(auto, unfolding(crate::specs::Kind::plain))]
 pub fn plain_field(w: u64) -> bool
     ensures { result ≡ plain w }
 {

@@ -1,0 +1,36 @@
+-- The party's partitions are written, and then its keys.
+use Rattle.std.proofs.Common.{ℕ, ◌+◌, ◌≤◌, List, ◌++◌, length, map, get_or}
+use Rattle.rules.specs.Names.{bits_in}
+use Rattle.numbers.specs.Written.{Written}
+use Rattle.numbers.proofs.Placed.{Unfinished, part_room, part-done}
+use Rattle.roster_file.specs.Printed.{names_text, party_text}
+use Rattle.roster_print.specs.Answers.{named}
+use Rattle.roster_print.specs.declared.Kind.TheVariants.{Partition, Key}
+use Rattle.roster_print.proofs.Texts.{begun-as, party-parts}
+use Rattle.roster_print.proofs.render_party.Goals as goal
+
+module _ (out : List ℕ) (at : ℕ) (roster : List ℕ) (who : ℕ) (h : at + length (party_text roster who) ≤ length out) where
+  -- the lines of the party's partitions, and those of its keys
+  abbrev partitions : List ℕ
+  partitions = names_text who (map (named Partition) (bits_in (get_or roster who 0)))
+
+  abbrev keys : List ℕ
+  keys = names_text who (map (named Key) (bits_in (get_or roster (8 + who) 0)))
+
+  start : Unfinished out at (party_text roster who) out at (partitions ++ keys)
+  start = begun-as _ _ _ _ (party-parts roster who) h
+
+  first-room : at + length partitions ≤ length out
+  first-room = part_room partitions keys start
+
+  after-partitions : (next : List ℕ) (end : ℕ) → Written out at partitions next end → Unfinished out at (party_text roster who) next end keys
+  after-partitions next end w = part-done partitions keys start w
+
+pub render_word-end-requires : goal.render_word-end-requires
+render_word-end-requires c = first-room _ _ c.args.roster.now c.args.party c.requires.2
+
+pub render_word-requires : goal.render_word-requires
+render_word-requires c = (after-partitions _ _ c.args.roster.now c.args.party c.requires.2 _ _ c.render_word-end.ensures).room
+
+pub returns : goal.returns
+returns c = (after-partitions _ _ c.args.roster.now c.args.party c.requires.2 _ _ c.render_word-end.ensures).completes _ _ c.render_word.ensures

@@ -1,0 +1,6 @@
+-- `has_bit` meets its contract: below 64 the code computes what `bit` says, and no word has a bit past 63.
+use Rattle.rules.proofs.BitLaws.{no-bit}
+use Rattle.words.proofs.has_bit.Goals as goal
+
+pub returns-else-c-lt64 : goal.returns-else-c-lt64
+returns-else-c-lt64 c = no-bit 64 _ _ c.ranges.w.fits c.if-c-lt64.false
