@@ -1,9 +1,9 @@
 """Says of each function what its contract lacks; the last line has how many functions were looked at.
 
 A public function states its outcome by `ensures`, and names there as it is at the exit everything that is lent to it to be
-written: `space .exit` for the parameter `space`, `«has_keys» .exit` for `has_keys`. That it is named is all that is seen here, not
+written: `space.new` for the parameter `space`. That it is named is all that is seen here, not
 what is said of it; and a `&mut` is seen in a parameter's type, not inside a struct that the type names. A function that a guest can
-call has no `requires`: those of the crates `space` and `space_c`. No function has more than 40 lines of code.
+call has no `requires`: those of the crates `space`, `space_c` and `space_c_c`. No function has more than 40 lines of code.
 
 With --self the same is asked of the made-up functions at the end of this file, of which it is known what they lack.
 """
@@ -11,10 +11,10 @@ import pathlib
 import re
 import sys
 
-GUEST_CRATES = ("space", "space_c")
+GUEST_CRATES = ("space", "space_c", "space_c_c")
 MOST_LINES = 40
 HEAD = re.compile(r'^([ \t]*)(pub(?:\([^)]*\))? )?((?:const |unsafe |extern (?:"[^"]*" )?)*)fn (\w+)', re.M)
-CLAUSE = re.compile(r"\b(requires|ensures|ghost)\s*\{|\{")
+CLAUSE = re.compile(r"\b(requires|ensures|ghost)(?:\s+\w+)?\s*\{|\{")  # a clause may have a name
 LENT = re.compile(r"&\s*(?:'\w+\s+)?mut\b")
 CLOSES = {"(": ")", "[": "]", "{": "}", "<": ">"}
 BOUND = r'[\s(){}.;,@"«»]'  # what ends a name in a clause
@@ -52,10 +52,8 @@ def lent_to_be_written(parameters):
 
 
 def at_exit(name, clauses):
-    """Whether the clauses speak of this parameter as it is at the exit. A name with an underscore is an operator's unless it is
-    escaped."""
-    written = f"«{name}»" if "_" in name else f"(?:{name}|«{name}»)"
-    return re.search(rf"(?:^|{BOUND}){written}\s+\.exit(?={BOUND}|$)", " ".join(clauses))
+    """Whether the clauses speak of this parameter as it is at the exit."""
+    return re.search(rf"(?:^|{BOUND})(?:{name}|«{name}»)\.new(?={BOUND}|$)", " ".join(clauses))
 
 
 def contract_of(source, at):
@@ -105,42 +103,43 @@ def check_crates():
     print(f"public functions: {functions}, lent to them to be written: {parameters}")
 
 
-SAYS = "    ensures { λ r. ⌜ r ≡ 1 ⌝ }\n"
+SAYS = "    ensures { result ≡ 1 }\n"
 BODY = "{\n    1\n}\n"
 SILENT = "public, and silent about {} at the exit"
 # What it is, the function, and what it lacks; the crate is `words` where no other is said.
 MADE_UP = [
     ("nothing is lent", f"pub fn f(a: u32, b: &[u64]) -> u32\n{SAYS}{BODY}", []),
-    ("no ensures", f"pub fn f(space: &mut [u64]) -> u32\n    requires {{ ⌜ now (space .exit) ≡ [] ⌝ }}\n{BODY}", ["public, and no ensures"]),
+    ("no ensures", f"pub fn f(space: &mut [u64]) -> u32\n    requires {{ space.new ≡ [] }}\n{BODY}", ["public, and no ensures"]),
     ("silent about a lent slice", f"pub fn f(space: &mut [u64]) -> u32\n{SAYS}{BODY}", [SILENT.format("space")]),
     ("silent, and private", f"fn f(space: &mut [u64]) -> u32\n{SAYS}{BODY}", []),
-    ("it says it", f"pub fn f(space: &mut [u64])\n    ensures {{ λ _. ⌜ now (space .exit) ≡ now (space .entry) ⌝ }}\n{BODY}", []),
-    ("it says it in its second ensures", f"pub fn f(out: &mut [u8]) -> u32\n{SAYS}    ensures {{ λ _. ⌜ Kept (now (out .exit)) ⌝ }}\n{BODY}", []),
-    ("only what it is at the entry", f"pub fn f(out: &mut [u8]) -> u32\n    ensures {{ λ r. ⌜ r ≡ length (now (out .entry)) ⌝ }}\n{BODY}", [SILENT.format("out")]),
-    ("only in a requires", f"pub fn f(out: &mut [u8]) -> u32\n    requires {{ ⌜ now (out .exit) ≡ [] ⌝ }}\n{SAYS}{BODY}", [SILENT.format("out")]),
-    ("only in a comment", f"pub fn f(out: &mut [u8]) -> u32\n    // out .exit\n    ensures {{ λ r. -- out .exit\n        ⌜ r ≡ 1 ⌝ }}\n{BODY}", [SILENT.format("out")]),
-    ("only in the body", f"pub fn f(out: &mut [u8]) -> u32\n{SAYS}{{\n    ensures(out .exit)\n}}\n", [SILENT.format("out")]),
-    ("only of a longer name", f"pub fn f(out: &mut [u8]) -> u32\n    ensures {{ λ r. ⌜ now (about-out .exit) ≡ now (out .exits) ⌝ }}\n{BODY}", [SILENT.format("out")]),
-    ("one of two", f"pub fn f(\n    a: &mut [u64],\n    b: u32,\n    c: &mut [u64],\n) -> u32\n    ensures {{ λ r. ⌜ now (a .exit) ≡ [] ⌝ }}\n{BODY}", [SILENT.format("c")]),
-    ("both, on several lines", f"pub fn f(\n    a: &mut [u64],\n    c: &mut [u64],\n) -> u32\n    ensures {{\n        λ r. ⌜ now (a .exit) ≡\n            now (c .exit) ⌝\n    }}\n{BODY}", []),
-    ("a name with an underscore", f"pub fn f(all_of: &mut [u64])\n    ensures {{ λ _. ⌜ now («all_of» .exit) ≡ [] ⌝ }}\n{BODY}", []),
-    ("a name with an underscore that isn't escaped", f"pub fn f(all_of: &mut [u64])\n    ensures {{ λ _. ⌜ now (all_of .exit) ≡ [] ⌝ }}\n{BODY}", [SILENT.format("all_of")]),
+    ("it says it", f"pub fn f(space: &mut [u64])\n    ensures {{ space.new ≡ space.old }}\n{BODY}", []),
+    ("it says it in its second ensures", f"pub fn f(out: &mut [u8]) -> u32\n{SAYS}    ensures {{ Kept (out.new) }}\n{BODY}", []),
+    ("it says it in a clause with a name", f"pub fn f(out: &mut [u8]) -> u32\n{SAYS}    ensures left {{ Kept out.new }}\n{BODY}", []),
+    ("only in a requires with a name", f"pub fn f(out: &mut [u8]) -> u32\n    requires left {{ Kept out.new }}\n{SAYS}{BODY}", [SILENT.format("out")]),
+    ("only what it is at the entry", f"pub fn f(out: &mut [u8]) -> u32\n    ensures {{ result ≡ length (out.old) }}\n{BODY}", [SILENT.format("out")]),
+    ("only in a requires", f"pub fn f(out: &mut [u8]) -> u32\n    requires {{ out.new ≡ [] }}\n{SAYS}{BODY}", [SILENT.format("out")]),
+    ("only in a comment", f"pub fn f(out: &mut [u8]) -> u32\n    // out.new\n    ensures {{ result -- out.new\n        ≡ 1 }}\n{BODY}", [SILENT.format("out")]),
+    ("only in the body", f"pub fn f(out: &mut [u8]) -> u32\n{SAYS}{{\n    ensures(out.new)\n}}\n", [SILENT.format("out")]),
+    ("only of a longer name", f"pub fn f(out: &mut [u8]) -> u32\n    ensures {{ about_out.new ≡ out.news }}\n{BODY}", [SILENT.format("out")]),
+    ("one of two", f"pub fn f(\n    a: &mut [u64],\n    b: u32,\n    c: &mut [u64],\n) -> u32\n    ensures {{ a.new ≡ [] }}\n{BODY}", [SILENT.format("c")]),
+    ("both, on several lines", f"pub fn f(\n    a: &mut [u64],\n    c: &mut [u64],\n) -> u32\n    ensures {{\n        a.new ≡\n            c.new\n    }}\n{BODY}", []),
+    ("a name with an underscore", f"pub fn f(all_of: &mut [u64])\n    ensures {{ all_of.new ≡ [] }}\n{BODY}", []),
     ("a lifetime, silent", f"pub fn f<'a>(out: &'a mut [u8], b: &'a [u8]) -> u32\n{SAYS}{BODY}", [SILENT.format("out")]),
-    ("a lifetime, and it says it", f"pub fn f<'a, 'b: 'a>(out: &'a mut [u8]) -> u32\n    ensures {{ λ _. ⌜ now (out .exit) ≡ [] ⌝ }}\n{BODY}", []),
-    ("for C, silent", f'#[no_mangle]\npub extern "C" fn f(a: &[u64], result: &mut [u64]) -> u32\n{SAYS}{BODY}', [SILENT.format("result")]),
-    ("for C, and it says it", f'pub extern "C" fn f(result: &mut [u64]) -> u32\n    ensures {{ λ r. ⌜ Left r (now (result .exit)) ⌝ }}\n{BODY}', []),
+    ("a lifetime, and it says it", f"pub fn f<'a, 'b: 'a>(out: &'a mut [u8]) -> u32\n    ensures {{ out.new ≡ [] }}\n{BODY}", []),
+    ("for C, silent", f'#[unsafe(no_mangle)]\npub extern "C" fn f(a: &[u64], result: &mut [u64]) -> u32\n{SAYS}{BODY}', [SILENT.format("result")]),
+    ("for C, and it says it", f'pub extern "C" fn f(result: &mut [u64]) -> u32\n    ensures {{ Left result result.new }}\n{BODY}', []),
     ("lent in a pair", f"pub fn f(pair: (u32, &mut u64), b: u32) -> u32\n{SAYS}{BODY}", [SILENT.format("pair")]),
     ("a parameter that can be changed is not lent", f"pub fn f(mut a: u32) -> u32\n{SAYS}{BODY}", []),
-    ("an implicit argument in a clause", f"pub fn f(out: &mut [u8]) -> u32\n    ensures {{ λ r. ⌜ Is {{r}} (now (out .exit)) ⌝ }}\n{BODY}", []),
+    ("an implicit argument in a clause", f"pub fn f(out: &mut [u8]) -> u32\n    ensures {{ Is {{result}} (out.new) }}\n{BODY}", []),
     ("a method, silent", f"impl Desk {{\n    pub fn f(&mut self) -> u32\n    {SAYS}    {{\n        1\n    }}\n}}\n", [SILENT.format("self")]),
     ("the second function of two", f"pub fn g() -> u32\n{SAYS}{BODY}\npub fn f(a: &mut u64) -> u32\n{SAYS}{BODY}", [SILENT.format("a")]),
-    ("a requires where no guest calls", f"pub fn f(a: u32) -> u32\n    requires {{ ⌜ a ≤ 1 ⌝ }}\n{SAYS}{BODY}", []),
+    ("a requires where no guest calls", f"pub fn f(a: u32) -> u32\n    requires {{ a ≤ 1 }}\n{SAYS}{BODY}", []),
     ("40 lines", f"fn f()\n{SAYS}{{\n" + "    1;\n" * 40 + "}\n", []),
     ("41 lines", f"fn f()\n{SAYS}{{\n" + "    1;\n" * 41 + "}\n", ["41 lines of code"]),
 ]
 MADE_UP_FOR_GUESTS = [
-    ("a requires", f"pub fn f(a: u32) -> u32\n    requires {{ ⌜ a ≤ 1 ⌝ }}\n{SAYS}{BODY}", ["a guest can call it, and it has a requires"]),
-    ("a requires of a helper", f"fn f(a: u32) -> u32\n    requires {{ ⌜ a ≤ 1 ⌝ }}\n{SAYS}{BODY}", []),
+    ("a requires", f"pub fn f(a: u32) -> u32\n    requires {{ a ≤ 1 }}\n{SAYS}{BODY}", ["a guest can call it, and it has a requires"]),
+    ("a requires of a helper", f"fn f(a: u32) -> u32\n    requires {{ a ≤ 1 }}\n{SAYS}{BODY}", []),
 ]
 
 
