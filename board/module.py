@@ -17,19 +17,20 @@ DESK_TRIPLE = "x86_64-unknown-linux-gnu"
 DESK_ATTRIBUTES = ' "probe-stack"="inline-asm" "stack-probe-size"="3072" "target-cpu"="x86-64-v2"'
 POINTER = 8  # bytes that a pointer has on the desk; on the board it has four of them, and the others are padding
 
-VALUE = r'(?:%[\w.]+|-?\d+|true|false)'
+VALUE = r'(?:%[\w.]+|@static\.\d+|-?\d+|true|false)'
 INT = r'(?:i1|i8|i16|i32|i64)'
 TYPE = r'(?:i1|i8|i16|i32|i64|ptr)'
 NUMBERS = rf'\{{ {INT}(?:, {INT})* \}}'  # several numbers side by side, as both layouts place them: each at a multiple of its size
 NAME = r'@(?:"[\w:]+"|\w+)'
 NOTES = r'(?:, !(?:noundef|range) !\d+)*'  # and so none that a pointer isn't null: where the length is 0 it may be
 ARGUMENTS = rf'(?:{TYPE} {VALUE}(?:, {TYPE} {VALUE})*)?'
-PARAMETER = rf'(?:{TYPE} noundef|i1 noundef zeroext) %\w+'
+PARAMETER = rf'(?:{TYPE}(?: noundef)?|i1 noundef zeroext) %\w+'
 PARAMETERS = rf'(?:{PARAMETER}(?:, {PARAMETER})*)?'
 
 # Every form of line that the module may have. Numbers are compared and computed with as numbers of their own width; a pointer
 # is only stored, loaded, passed on, moved by a count of bytes and compared with null. So no ptrtoint, no comparison of two pointers,
-# no size of a type. Where memory is filled, it is with zeros, which are 0 and null in every width.
+# no size of a type. Where memory is filled, it is with zeros, which are 0 and null in every width. What stands outside the functions
+# is bytes that nobody writes; both targets order the bytes of a number alike.
 FORMS = {
     "blank": r"",
     "comment": r"; .*",
@@ -38,6 +39,7 @@ FORMS = {
     "file": r'source_filename = "\w+"',
     "layout": r'target datalayout = "[^"]*"',
     "triple": r'target triple = "[^"]*"',
+    "bytes": r'@static\.\d+ = private unnamed_addr constant \[\d+ x i8\] (?:c"[^"]*"|zeroinitializer), align [1248]',
     "attributes": r"attributes #\d+ = \{.*\}",
     "metadata": r"!(?:[\w.]+|\d+) = !\{.*\}",
     "declare": r"declare void @llvm\.memmove\.p0\.p0\.i64\(ptr writeonly captures\(none\), ptr readonly captures\(none\), i64, i1 immarg\) #\d+",

@@ -25,6 +25,7 @@ DOCTORED = [
     ("several numbers where a pointer is", "module", CALL, "  %x = load { i8, i32 }, ptr %r0, align 8\n" + CALL, "now a pointer, now a number"),
     ("a step by the size of a pointer", "module", "getelementptr i8, ptr %r0, i64 8", "getelementptr ptr, ptr %r0, i64 1", "no kind"),
     ("a variable outside the functions", "module", "\n\n; Function", "\n\n@x = global i64 0\n\n; Function", "no kind"),
+    ("a constant that has a pointer", "module", "\n\n; Function", "\n\n@static.99 = private unnamed_addr constant ptr @static.0, align 8\n\n; Function", "no kind"),
     ("assembler", "module", CALL, '  call void asm sideeffect "nop", ""()\n' + CALL, "no kind"),
     ("a slot read as pointer and as number", "module", CALL, "  %x = load i64, ptr %r0, align 8\n" + CALL, "now a pointer, now a number"),
     ("half of a pointer read", "module", CALL, "  %x = getelementptr i8, ptr %r0, i64 4\n  %y = load i32, ptr %x, align 4\n" + CALL, "now a pointer, now a number"),
