@@ -51,9 +51,9 @@ impl Desk {
     }
 }
 
-/// A system, and the reference of today's rules or of others; or the reference alone.
+/// A system, and the reference of today's rules or of others.
 pub struct Both<'a> {
-    system: Option<&'a mut dyn Space>,
+    system: &'a mut dyn Space,
     pub reference: Reference,
     pub systems: Desk,
     pub references: Desk,
@@ -62,23 +62,11 @@ pub struct Both<'a> {
 impl<'a> Both<'a> {
     pub fn new(system: &'a mut dyn Space, reference: Reference) -> Both<'a> {
         Both {
-            system: Some(system),
-            ..Both::alone(reference)
-        }
-    }
-
-    /// The reference alone: nothing is compared.
-    pub fn alone(reference: Reference) -> Both<'a> {
-        Both {
-            system: None,
+            system,
             reference,
             systems: Desk::new(),
             references: Desk::new(),
         }
-    }
-
-    pub fn is_alone(&self) -> bool {
-        self.system.is_none()
     }
 
     /// Lends both this space from now on.
@@ -93,20 +81,17 @@ impl<'a> Both<'a> {
     }
 
     /// Makes the call of both, which may be worded otherwise for the reference. Gives the system's
-    /// answer and the reference's; where there is no system, the reference's twice.
+    /// answer and the reference's.
     pub fn make(&mut self, systems: &Call, references: &Call, rng: &mut Rng) -> [u32; 2] {
         let result: Vec<u64> = (0..systems.result_len()).map(|_| rng.word()).collect();
         self.systems.lay_out(systems, &result);
         self.references.lay_out(references, &result);
         let code = self.references.make(references, &mut self.reference);
-        match &mut self.system {
-            Some(system) => [self.systems.make(systems, *system), code],
-            None => [code; 2],
-        }
+        [self.systems.make(systems, self.system), code]
     }
 
     /// Makes the call of both and compares all words. Gives the system's answer if the two answers
-    /// are such, or what differs. Of the reference alone it gives the answer.
+    /// are such, or what differs.
     pub fn call(
         &mut self,
         systems: &Call,
@@ -116,9 +101,6 @@ impl<'a> Both<'a> {
     ) -> Result<u32, String> {
         let looked_at = (systems.kind() == Kind::LOOK).then(|| self.systems.space.clone());
         let answers = self.make(systems, references, rng);
-        if self.is_alone() {
-            return Ok(answers[1]);
-        }
         // What the system was lent only to be read has to be as it was.
         self.references.input.set(systems.input());
         let mut differences = self.systems.differences(&self.references);

@@ -100,22 +100,12 @@ const PARTS: [Part; 7] = [
     },
 ];
 
-/// Compares a system with the reference in all parts, and counts what they reach.
-pub fn compare(report: &mut Report, system: &mut dyn Space) {
-    run_parts(report, "differential, library", Duel::new(system));
-}
-
-/// Counts what the parts reach with the reference alone. Compared is only what a part knows of an
-/// answer without it.
-pub fn reach(report: &mut Report) {
-    run_parts(report, "coverage, reference", Duel::alone());
-}
-
 /// Runs all parts and prints the table of answers.
-fn run_parts(report: &mut Report, what: &str, mut duel: Duel) {
+pub fn compare(report: &mut Report, who: &str, system: &mut dyn Space) {
+    let mut duel = Duel::new(system);
     for part in &PARTS {
         let outcome = run_part(&mut duel, part);
-        report.check(&format!("{what}: {}", part.name), outcome);
+        report.check(&format!("differential, {who}: {}", part.name), outcome);
     }
     let tally = &duel.tally;
     print!("{}", tally.table());
@@ -133,10 +123,10 @@ fn run_parts(report: &mut Report, what: &str, mut duel: Duel) {
         }
         Ok(text)
     });
-    report.check(&format!("{what}: answers reached"), reached);
+    report.check(&format!("differential, {who}: answers reached"), reached);
     print!("{}", duel.missing.table());
     let lacked = duel.missing.check();
-    report.check(&format!("{what}: names lacked"), lacked);
+    report.check(&format!("differential, {who}: names lacked"), lacked);
 }
 
 /// Gives the first difference of a wrong system, with the number of calls before it. Only the
@@ -178,9 +168,8 @@ fn run_part(duel: &mut Duel, part: &Part) -> Result<String, String> {
     }
     let after = counts(&duel.tally);
     let [calls, looks, receives] = std::array::from_fn(|place| after[place] - before[place]);
-    let alike = if duel.is_alone() { "" } else { " alike" };
     let text = format!(
-        "seed {}, {calls} calls{alike}, {looks} of them looks and {receives} receives",
+        "seed {}, {calls} calls alike, {looks} of them looks and {receives} receives",
         part.seed
     );
     match looks.min(receives) >= FEWEST_LOOKS {

@@ -1,5 +1,4 @@
-//! Makes the same call of a system and of the reference and compares everything afterwards; or the
-//! call of the reference alone, to count what it reaches.
+//! Makes the same call of a system and of the reference and compares everything afterwards.
 
 use crate::both::{same, Both};
 use crate::bounds;
@@ -33,7 +32,7 @@ pub const HAPPENINGS: [&str; 5] = [
     TABLE_FULL,
 ];
 
-/// A system and the reference, side by side, or the reference alone.
+/// A system and the reference, side by side.
 pub struct Duel<'a> {
     both: Both<'a>,
     pub tally: Tally,
@@ -42,24 +41,11 @@ pub struct Duel<'a> {
 
 impl<'a> Duel<'a> {
     pub fn new(system: &'a mut dyn Space) -> Duel<'a> {
-        Duel::of(Both::new(system, Reference::correct()))
-    }
-
-    /// The reference alone: it isn't compared with itself.
-    pub fn alone() -> Duel<'a> {
-        Duel::of(Both::alone(Reference::correct()))
-    }
-
-    fn of(both: Both<'a>) -> Duel<'a> {
         Duel {
-            both,
+            both: Both::new(system, Reference::correct()),
             tally: Tally::default(),
             missing: Missing::default(),
         }
-    }
-
-    pub fn is_alone(&self) -> bool {
-        self.both.is_alone()
     }
 
     /// Lends both this space from now on.

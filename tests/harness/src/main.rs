@@ -4,13 +4,10 @@
 //! `console` the program that the variable `CONSOLE` names, `roster` the program that `ROSTER`
 //! names and the linked library's reading of roster files, `order` the program that `ORDER` names
 //! and the linked library's start orders, `variants` the harness itself, and `reference` does with
-//! the reference what the first three do with the library, but doesn't compare it with itself: it
-//! counts what the calls at random reach. A part that is named must be runnable. Without arguments
-//! all parts run except those that lack a library or a program, which are printed as skipped. The
-//! library is linked if `SPACE_LIB_DIR` names its directory when the harness is built.
-//!
-//! What is counted at the end: a case with its answers written by hand, a comparison over all its
-//! calls, files or lists at random (its line says how many), and a wrong variant that is caught.
+//! the reference what the first three do with the library. A part that is named must be runnable.
+//! Without arguments all parts run except those that lack a library or a program, which are printed
+//! as skipped. The library is linked if `SPACE_LIB_DIR` names its directory when the harness is
+//! built.
 
 mod both;
 mod bounds;
@@ -54,7 +51,6 @@ mod tally;
 mod told_apart;
 mod variants;
 
-use duel::Duel;
 use looks::Look;
 use order::OrderCall;
 use reference::Reference;
@@ -111,9 +107,7 @@ fn run_part(report: &mut Report, part: &str) -> Result<(), &'static str> {
         "reference" => {
             let mut reference = Reference::correct();
             cases::check(report, "reference", &mut reference);
-            differential::reach(report);
-            rows::compare(report, "reference", Duel::alone());
-            hold_calls(report, "reference", &mut reference);
+            compare_calls(report, "reference", &mut reference);
             isolation::check(report, "reference", &mut reference);
         }
         "variants" => {
@@ -133,10 +127,7 @@ fn run_part(report: &mut Report, part: &str) -> Result<(), &'static str> {
         }
         "cases" => cases::check(report, "library", library()?.as_mut()),
         "differential" => {
-            let mut library = library()?;
-            differential::compare(report, library.as_mut());
-            rows::compare(report, "library", Duel::new(library.as_mut()));
-            hold_calls(report, "library", library.as_mut());
+            compare_calls(report, "library", library()?.as_mut());
             looks::check_closed(report, look()?);
         }
         "isolation" => isolation::check(report, "library", library()?.as_mut()),
@@ -156,8 +147,9 @@ fn run_part(report: &mut Report, part: &str) -> Result<(), &'static str> {
     Ok(())
 }
 
-/// Holds a system's calls against other calls of it, and against those of other rules.
-fn hold_calls(report: &mut Report, who: &str, system: &mut dyn Space) {
+fn compare_calls(report: &mut Report, who: &str, system: &mut dyn Space) {
+    differential::compare(report, who, system);
+    rows::compare(report, who, system);
     looks::check(report, who, system);
     singles::check(report, who, system);
     told_apart::check(report, who, system);

@@ -6,6 +6,7 @@ use crate::duel::Duel;
 use crate::pool::Pool;
 use crate::report::Report;
 use crate::rng::Rng;
+use crate::space::Space;
 use reference::names::{
     co_key, set_of, stored_key, LAST_KEY, LAST_PARTITION, LAST_STORED_KEY, MOST_FIELDS, PARTIES,
 };
@@ -210,20 +211,15 @@ fn bad_word(place: usize) -> u64 {
     }
 }
 
-/// Compares a system with the reference row by row, and both with the answers that are due; or the
-/// reference alone with these.
-pub fn compare(report: &mut Report, who: &str, mut duel: Duel) {
-    let alike = if duel.is_alone() {
-        "as due"
-    } else {
-        "alike, and as due"
-    };
+/// Compares a system with the reference row by row.
+pub fn compare(report: &mut Report, who: &str, system: &mut dyn Space) {
+    let mut duel = Duel::new(system);
     let outcome = (0..ROWS).try_for_each(|row| {
         round(&mut duel, row).map_err(|text| format!("seed {SEED}, row {row}, {text}"))
     });
     report.check(
         &format!("rows, {who}: each written, found, taken and damaged"),
-        outcome.map(|()| format!("{ROWS} rows, {} calls {alike}", duel.tally.calls())),
+        outcome.map(|()| format!("{ROWS} rows, {} calls alike", duel.tally.calls())),
     );
 }
 
