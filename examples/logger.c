@@ -25,15 +25,11 @@ struct pair {
 enum { FIELDS = 3 };
 enum { TRIGGER = 1, PICK, GAIN, NOTE, NAMES, ALARM };
 
-/* What a program asks of the host. There is no party in it: the host knows who is asking. Words it hands over by their address and
-   their count, as in a system call, and the host believes neither. */
+/* What a program asks of the host. There is no party in it: the host knows who is asking. */
 struct request {
     enum { PUT, LOOK, RECEIVE, TAKE } call;
     struct pair read, take; /* a put has both, a look and a receive the first, a take the second */
-    uintptr_t fields;       /* where its fields are, */
-    uint64_t field_count;
-    uintptr_t found;        /* and where it wants what is found */
-    uint64_t found_count;
+    uint64_t fields[FIELDS], found[FIELDS];
 };
 
 /* ---- The host ---- */
@@ -41,56 +37,28 @@ struct request {
 /* The space is the host's: a program that could write its words would be bound by nothing. */
 static uint64_t space[SPACE_WORDS];
 
-enum { DIGITISER, PICKER_A, PICKER_B, TELEMETRY, PROGRAMS }; /* the parties */
+enum { DIGITISER, PICKER_A, PICKER_B, TELEMETRY }; /* the parties */
 
-/* The memory of each program: on a board a region that the memory protection unit lets it write. */
-static uint64_t memory[PROGRAMS][2 * FIELDS];
-
-enum { NOT_SERVED = 200 }; /* the host's own refusal */
-
-/* Whether these words are aligned and lie wholly in the program's memory. An address below it is far above it as a distance, and no
-   sum or product is made that could go round. */
-static int is_own(uint32_t party, uintptr_t address, uint64_t count)
+static uint32_t serve(uint32_t party, struct request *r)
 {
-    const uintptr_t distance = address - (uintptr_t)memory[party];
-    return address % sizeof(uint64_t) == 0 && distance <= sizeof memory[party] &&
-           count <= (sizeof memory[party] - distance) / sizeof(uint64_t);
-}
-
-/* No address of a program's goes on to the space: its fields are copied in, what is found is copied out, and the call is made with
-   the host's own words. So a program may lend the same words twice, and a refused call leaves its words as they were. */
-static uint32_t serve(uint32_t party, struct request r)
-{
-    uint64_t fields[SPACE_MOST_FIELDS] = {0}, found[SPACE_MOST_FIELDS];
-    const uint64_t most = r.found_count < SPACE_MOST_FIELDS ? r.found_count : SPACE_MOST_FIELDS; /* more are never written */
-    uint32_t answer;
-    if (r.field_count > SPACE_MOST_FIELDS) return 103; /* as the space has it */
-    if (!is_own(party, r.fields, r.field_count) || (r.call != PUT && !is_own(party, r.found, most))) return NOT_SERVED;
-    for (uint64_t i = 0; i < r.field_count; i++) fields[i] = ((const uint64_t *)r.fields)[i];
-    switch (r.call) {
+    switch (r->call) {
     case PUT:
-        return space_put(space, SPACE_WORDS, party, r.read.partitions, r.read.key, r.take.partitions, r.take.key, fields,
-                         r.field_count);
+        return space_put(space, SPACE_WORDS, party, r->read.partitions, r->read.key, r->take.partitions, r->take.key, r->fields,
+                         FIELDS);
     case LOOK:
-        answer = space_look(space, SPACE_WORDS, party, r.read.partitions, r.read.key, fields, r.field_count, found, most);
-        break;
+        return space_look(space, SPACE_WORDS, party, r->read.partitions, r->read.key, r->fields, FIELDS, r->found, FIELDS);
     case RECEIVE:
-        answer = space_receive(space, SPACE_WORDS, party, r.read.partitions, r.read.key, fields, r.field_count, found, most);
-        break;
-    case TAKE:
-        answer = space_take(space, SPACE_WORDS, party, r.take.partitions, r.take.key, fields, r.field_count, found, most);
-        break;
-    default: return NOT_SERVED;
+        return space_receive(space, SPACE_WORDS, party, r->read.partitions, r->read.key, r->fields, FIELDS, r->found, FIELDS);
+    default:
+        return space_take(space, SPACE_WORDS, party, r->take.partitions, r->take.key, r->fields, FIELDS, r->found, FIELDS);
     }
-    for (uint32_t i = 0; answer <= SPACE_MOST_FIELDS && i < answer; i++) ((uint64_t *)r.found)[i] = found[i];
-    return answer;
 }
 
 /* A door for each program, with the party fixed in it. A program gets its own door alone, so it can't pass for another. */
-static uint32_t digitiser_door(struct request r) { return serve(DIGITISER, r); }
-static uint32_t picker_a_door(struct request r) { return serve(PICKER_A, r); }
-static uint32_t picker_b_door(struct request r) { return serve(PICKER_B, r); }
-static uint32_t telemetry_door(struct request r) { return serve(TELEMETRY, r); }
+static uint32_t digitiser_door(struct request *r) { return serve(DIGITISER, r); }
+static uint32_t picker_a_door(struct request *r) { return serve(PICKER_A, r); }
+static uint32_t picker_b_door(struct request *r) { return serve(PICKER_B, r); }
+static uint32_t telemetry_door(struct request *r) { return serve(TELEMETRY, r); }
 
 /* The plan above. Nobody holds what isn't in it, but for key 0, which is everybody's. */
 static const struct gift {
@@ -120,16 +88,9 @@ static uint32_t open_space(void)
 
 static const struct program {
     const char *name;
-    uint64_t *memory;
-    uint32_t (*door)(struct request);
-} digitiser = {"digitiser", memory[DIGITISER], digitiser_door}, picker_a = {"picker A", memory[PICKER_A], picker_a_door},
-  picker_b = {"picker B", memory[PICKER_B], picker_b_door}, telemetry = {"telemetry", memory[TELEMETRY], telemetry_door};
-
-/* What a program has in mind, and what came of it. */
-struct wish {
-    struct request request;
-    uint64_t fields[FIELDS], found[FIELDS];
-};
+    uint32_t (*door)(struct request *);
+} digitiser = {"digitiser", digitiser_door}, picker_a = {"picker A", picker_a_door}, picker_b = {"picker B", picker_b_door},
+  telemetry = {"telemetry", telemetry_door};
 
 static struct pair triggers, settings, notes;
 static struct pair picks_of_a, picks_of_b;           /* for a group's own eyes */
@@ -151,25 +112,25 @@ static void make_pairs(void)
 /* The pair that finds what is put under this one. Any partition of the set would do in place of all. */
 static struct pair co(struct pair p) { return (struct pair){p.partitions, -p.key}; }
 
-static struct wish to_put(struct pair read, struct pair take, uint32_t what, uint64_t a, uint64_t b)
+static struct request to_put(struct pair read, struct pair take, uint32_t what, uint64_t a, uint64_t b)
 {
-    return (struct wish){.request = {.call = PUT, .read = read, .take = take}, .fields = {space_message(what), a, b}};
+    return (struct request){.call = PUT, .read = read, .take = take, .fields = {space_message(what), a, b}};
 }
 
 /* Where the fields alone are wanted, a program looks. It receives where it wants the names in them: they are its own for good. */
-static struct wish to_look(struct pair pair, uint32_t what, uint64_t a, uint64_t b)
+static struct request to_look(struct pair pair, uint32_t what, uint64_t a, uint64_t b)
 {
-    return (struct wish){.request = {.call = LOOK, .read = pair}, .fields = {space_message(what), a, b}};
+    return (struct request){.call = LOOK, .read = pair, .fields = {space_message(what), a, b}};
 }
 
-static struct wish to_receive(struct pair pair, uint32_t what, uint64_t a, uint64_t b)
+static struct request to_receive(struct pair pair, uint32_t what, uint64_t a, uint64_t b)
 {
-    return (struct wish){.request = {.call = RECEIVE, .read = pair}, .fields = {space_message(what), a, b}};
+    return (struct request){.call = RECEIVE, .read = pair, .fields = {space_message(what), a, b}};
 }
 
-static struct wish to_take(struct pair pair, uint32_t what, uint64_t a, uint64_t b)
+static struct request to_take(struct pair pair, uint32_t what, uint64_t a, uint64_t b)
 {
-    return (struct wish){.request = {.call = TAKE, .take = pair}, .fields = {space_message(what), a, b}};
+    return (struct request){.call = TAKE, .take = pair, .fields = {space_message(what), a, b}};
 }
 
 #define ANY SPACE_WILDCARD
@@ -184,35 +145,17 @@ static void show_field(uint64_t word)
     printf(" %s%lld", kind, (long long)space_value(word));
 }
 
-/* A program writes its fields into its memory and goes to its door with their address; behind them is room for what is found. */
-static uint32_t ask(const struct program *p, struct wish *w)
+/* A program goes to its door. A line says who does what and what the answer is. */
+static struct request step(const struct program *p, const char *what, struct request r, uint32_t expected)
 {
-    for (int i = 0; i < FIELDS; i++) p->memory[i] = w->fields[i];
-    w->request.fields = (uintptr_t)p->memory, w->request.field_count = FIELDS;
-    w->request.found = (uintptr_t)(p->memory + FIELDS), w->request.found_count = FIELDS;
-    const uint32_t answer = p->door(w->request);
-    for (int i = 0; i < FIELDS; i++) w->found[i] = p->memory[FIELDS + i];
-    return answer;
-}
-
-/* A line says who does what and what the answer is. */
-static void tell(const struct program *p, const char *what, uint32_t answer, int is_put, uint32_t expected)
-{
+    uint32_t answer = p->door(&r);
     printf("%-9s  %s: ", p->name, what);
-    if (answer == NOT_SERVED) printf("refused by the host");
-    else if (space_refusal(answer)) printf("refused by %u. %s", (unsigned)answer, space_meaning(answer));
-    else if (answer == 0) printf(is_put ? "done" : "none");
-    else printf("found");
-    surprises += answer != expected;
-}
-
-static struct wish step(const struct program *p, const char *what, struct wish w, uint32_t expected)
-{
-    const uint32_t answer = ask(p, &w);
-    tell(p, what, answer, w.request.call == PUT, expected);
-    if (answer == FOUND) show_field(w.found[1]), show_field(w.found[2]);
+    if (space_refusal(answer)) printf("refused by %u. %s", (unsigned)answer, space_meaning(answer));
+    else if (answer == 0) printf(r.call == PUT ? "done" : "none");
+    else printf("found"), show_field(r.found[1]), show_field(r.found[2]);
     printf("\n");
-    return w;
+    surprises += answer != expected;
+    return r;
 }
 
 /* ---- What happens ---- */
@@ -237,18 +180,18 @@ static void triggers_after(void)
 {
     uint64_t next = 2;
     int taken = 0;
-    struct wish down = to_take(triggers, TRIGGER, space_at_most(3), ANY);
+    struct request down = to_take(triggers, TRIGGER, space_at_most(3), ANY);
     step(&digitiser, "puts trigger 2, 9000 samples", to_put(triggers, co(triggers), TRIGGER, space_message(2), space_message(9000)), DONE);
     step(&digitiser, "puts trigger 3, 7000 samples", to_put(triggers, co(triggers), TRIGGER, space_message(3), space_message(7000)), DONE);
     step(&digitiser, "puts trigger 4, 12000 samples", to_put(triggers, co(triggers), TRIGGER, space_message(4), space_message(12000)), DONE);
     for (int i = 0; i < 2; i++) {
-        struct wish asked = to_look(co(triggers), TRIGGER, space_at_least(next), space_at_least(8000));
-        struct wish got = step(&picker_a, "looks for the next of at least 8000 samples", asked, FOUND);
+        struct request asked = to_look(co(triggers), TRIGGER, space_at_least(next), space_at_least(8000));
+        struct request got = step(&picker_a, "looks for the next of at least 8000 samples", asked, FOUND);
         next = (uint64_t)space_value(got.found[1]) + 1;
     }
     step(&picker_a, "looks for the next", to_look(co(triggers), TRIGGER, space_at_least(next), space_at_least(8000)), NONE);
     step(&picker_b, "looks for the oldest of them", to_look(co(triggers), TRIGGER, ANY, space_at_least(8000)), FOUND);
-    while (ask(&digitiser, &down) == FOUND) taken++;
+    while (digitiser.door(&down) == FOUND) taken++;
     printf("digitiser  takes the triggers up to number 3 down: %d\n", taken);
     step(&picker_b, "looks for the oldest of them", to_look(co(triggers), TRIGGER, ANY, space_at_least(8000)), FOUND);
     step(&digitiser, "takes trigger 4 down", to_take(triggers, TRIGGER, space_message(4), ANY), FOUND);
@@ -273,7 +216,7 @@ static void picks(void)
 
 /* All hold -9 and look at the setting; 9 is its owner's. To change it, first put the new one, then take the old one by its value.
    Whoever looks finds the oldest, so all go over from the old one to the new one and never find none. (It takes room for one entry
-   more. And whoever holds -9 can put something for the owner to take in its place: where that might be, take until none.) */
+   more.) */
 static void a_setting(void)
 {
     step(&telemetry, "sets the gain of channel 1 to 20", to_put(settings, co(settings), GAIN, space_message(1), space_message(20)), DONE);
@@ -316,7 +259,7 @@ static void names(void)
     step(&telemetry, "tries to look at the note", to_look(co(notes), NOTE, ANY, ANY), 113);
     step(&picker_a, "hands over the names", to_put(from_a, from_a, NAMES, space_partition(12), space_key(-notes.key)), DONE);
     step(&picker_b, "tries to take them", to_take(co(from_a), NAMES, ANY, ANY), 113);
-    struct wish seen = step(&telemetry, "looks at them", to_look(co(from_a), NAMES, ANY, ANY), FOUND);
+    struct request seen = step(&telemetry, "looks at them", to_look(co(from_a), NAMES, ANY, ANY), FOUND);
     /* two numbers would give it no names, so it looks at the kinds */
     surprises += space_kind(seen.found[1]) != SPACE_KIND_PARTITION || space_kind(seen.found[2]) != SPACE_KIND_KEY;
     struct pair given = under((uint32_t)space_value(seen.found[1]), (int32_t)space_value(seen.found[2]));
@@ -333,47 +276,17 @@ static void names(void)
    that should be able to drop its own would hold -4 too.) What one program has used up, no other misses. */
 static void sixteen(void)
 {
-    struct wish pick = to_put(picks_of_a, from_a, PICK, space_message(2), space_message(5));
-    struct wish next = to_take(co(from_a), PICK, ANY, ANY);
+    struct request pick = to_put(picks_of_a, from_a, PICK, space_message(2), space_message(5));
+    struct request next = to_take(co(from_a), PICK, ANY, ANY);
     int put = 0, taken = 0;
-    while (ask(&picker_a, &pick) == DONE) put++;
+    while (picker_a.door(&pick) == DONE) put++;
     printf("picker A   puts picks until it is refused: %d, and the note is its 16th entry\n", put);
     step(&picker_a, "tries once more", pick, 108);
     step(&picker_b, "puts a pick all the same", to_put(picks_of_b, from_b, PICK, space_message(2), space_message(6)), DONE);
-    while (ask(&telemetry, &next) == FOUND) taken++;
+    while (telemetry.door(&next) == FOUND) taken++;
     printf("telemetry  takes picks of group A until there is none: %d\n", taken);
     step(&picker_a, "tries once more", pick, DONE);
     surprises += put != SPACE_SHARE - 1 || taken != put;
-}
-
-/* Picker B goes to its door with addresses and counts of its own choice. */
-static void reach(const char *what, struct request r, uint32_t expected)
-{
-    tell(&picker_b, what, picker_b.door(r), r.call == PUT, expected);
-    printf("\n");
-}
-
-/* Word 1 + p of the space has the partitions that party p holds. If the host handed addresses on, a look that finds 4294967295 could
-   write it there: picker B would hold the partitions 0 to 31, with the space as sound as before. And with fields from the space it could
-   put what others have put, for itself to find. */
-static void reaching_further(void)
-{
-    uint64_t *own = picker_b.memory;
-    const uintptr_t fields = (uintptr_t)own, found = (uintptr_t)(own + FIELDS), holdings = (uintptr_t)&space[1 + PICKER_B];
-    const uint64_t held = space[1 + PICKER_B];
-    const struct pair none = {0, 0}, co_pair = co(picks_of_b);
-    own[0] = space_message(4294967295), own[FIELDS] = 7;
-    reach("puts message 4294967295", (struct request){PUT, picks_of_b, picks_of_b, fields, 1, 0, 0}, DONE);
-    reach("looks for it, the result to go over its holdings", (struct request){LOOK, co_pair, none, fields, 1, holdings, 1}, NOT_SERVED);
-    reach("tries a result that is half its own", (struct request){LOOK, co_pair, none, fields, 1, found, SPACE_MOST_FIELDS}, NOT_SERVED);
-    reach("tries one that isn't aligned", (struct request){LOOK, co_pair, none, fields, 1, found + 4, 1}, NOT_SERVED);
-    reach("tries a count that goes round in bytes", (struct request){LOOK, co_pair, none, fields, 1, found, UINT64_C(1) << 61}, NOT_SERVED);
-    reach("tries so many fields", (struct request){LOOK, co_pair, none, fields, (UINT64_C(1) << 61) + 1, found, 1}, 103);
-    reach("tries to put words of the space", (struct request){PUT, picks_of_b, picks_of_b, holdings, 1, 0, 0}, NOT_SERVED);
-    surprises += space[1 + PICKER_B] != held || own[FIELDS] != 7; /* what is refused changes nothing, of the host's or its own */
-    step(&picker_b, "tries to look at a pick of group A", to_look(co(picks_of_a), PICK, ANY, ANY), 113);
-    own[0] = space_message(4294967295);
-    reach("takes it down, fields and result in one word", (struct request){TAKE, none, co_pair, fields, 1, fields, 1}, 1);
 }
 
 int main(void)
@@ -388,6 +301,5 @@ int main(void)
     an_eruption();
     names();
     sixteen();
-    reaching_further();
     return surprises != 0;
 }
