@@ -1,23 +1,24 @@
 -- The pass over the live rows, which counts each writer's: what holds when r of them are passed.
-use mathlib.Core.Path.{◌≡◌, sym, ap, ap₂, ◌∙◌}
+use mathlib.Core.Path.{◌≡◌, refl, sym, ap, ap₂, ◌∙◌}
 use mathlib.Core.Logic.{◌⊎◌, inl, inr}
 use mathlib.Core.Bool.{Bool, true, false, ◌&&◌, cond}
 use mathlib.Core.List.{List, ◌∷◌}
 use Prim.Native.Nat.{ℕ, suc, ◌+◌, ◌-◌, ◌≤◌, ◌<◌}
+use native.Mathlib.Nat.{add-sub_cancel_left}
 use native.Mathlib.Omega.{arith}
 use borrow.Author.Tests.{eqb-true, eqb-false, le-leb}
 use lib.Dec.{eqb, leb}
-use lib.ListN.{length, get_or, drop, set, length-set, get_or-replicate}
-use lib.Seq.{drop-drop, get_or-drop, get_or-set_same, get_or-set_other}
+use lib.ListN.{length, get_or, take, drop, set, replicate, length-set, length-take, length-drop, get_or-replicate}
+use lib.Seq.{drop-drop, get_or-take, get_or-drop, get_or-set_same, get_or-set_other}
 use Rattle.rules.specs.Lists.{all, keep}
 use Rattle.rules.specs.Matching.{Entry}
 use Rattle.rules.specs.State.{live, wrote, limit_of}
 use Rattle.rules.specs.Names.{parties}
-use Rattle.rules.specs.Words.{row_start, zeros, entry_at, entries_at, decode, row_ok, rows_ok, sound}
+use Rattle.rules.specs.Words.{row_start, entry_at, entries_at, decode, row_ok, rows_ok, sound}
 use Rattle.rules.proofs.BitLaws.{eqb_same}
 use Rattle.rules.proofs.ListLaws.{bool, clash}
-use Rattle.rules.proofs.Rows.{length-zeros}
 use Rattle.rules.proofs.Back.{sound-facts, wf-decode, row_back}
+use Rattle.rows.proofs.RowLaws.{row-lent}
 use Rattle.audit.specs.Audited.{Counted}
 
 -- the words from row r on, which are row r and those from the next row on
@@ -37,14 +38,14 @@ pub record Counting (ws counts : List ℕ) (r : ℕ) : Type 0 where
   pub count : (who : ℕ) → who ≤ 7 → get_or counts who 0 + live who (entries_at (get_or ws 0 0 - r) (rows_from ws r)) ≡ live who (decode ws).entries
   pub within : (who : ℕ) → who ≤ 7 → get_or counts who 0 ≤ 16
 
-pub counting-none : (ws counts : List ℕ) → counts ≡ zeros 8 → Counting ws counts 0
-unfolding zeros decode
+pub counting-none : (ws counts : List ℕ) → counts ≡ replicate 8 0 → Counting ws counts 0
+unfolding decode
 counting-none ws counts e =
     let all : get_or ws 0 0 - 0 ≡ get_or ws 0 0 = omega arith in
     let none : (who : ℕ) → who ≤ 7 → get_or counts who 0 ≡ 0 = λ who l. rw e (get_or-replicate 8 who 0 0 (omega arith)) in
     record {
       bound = omega arith;
-      len = rw e (length-zeros 8);
+      len = rw e refl;
       rows = rw all;
       count = λ who l. rw (all, none who l) (omega arith);
       within = λ who l. rw (none who l) (omega arith);
@@ -86,13 +87,31 @@ unsound ws h = go (bool (sound ws))
 first_word : (ws : List ℕ) (r : ℕ) → get_or (rows_from ws r) 0 0 ≡ writer_at ws r
 first_word ws r = let e : row_start r + 0 ≡ row_start r = omega arith in get_or-drop (row_start r) ws 0 0 ∙ ap (λ (k : ℕ). get_or ws k 0) e
 
-pub writer-le : (ws : List ℕ) (r : ℕ) → 14 ≤ length (rows_from ws r) → row_ok (rows_from ws r) ≡ true → writer_at ws r ≤ 7
-writer-le ws r l e = rw (← (first_word ws r)) (row_back (rows_from ws r) l e).0.writer_ok
+row_cut : (l : List ℕ) → 14 ≤ length l → row_ok (take 14 l) ≡ row_ok l
+row_cut l h = row-lent l 0 h
 
--- one row more
-module _ (ws counts : List ℕ) (r : ℕ) (at : Counting ws counts r) (more : r < get_or ws 0 0) where
+-- S6: the writer of a good row is a party
+writer-le : (row : List ℕ) → length row ≡ 14 → row_ok row ≡ true → get_or row 0 0 ≤ 7
+writer-le row l e = (row_back row (omega arith) e).0.writer_ok
+
+-- row r, as the part of the space that is lent from its start on
+pub lent-row : (ws : List ℕ) (r : ℕ) {at : ℕ} → at ≡ row_start r → take (at + 14 - at) (drop at ws) ≡ take 14 (rows_from ws r)
+lent-row ws r here = rw (here, add-sub_cancel_left) refl
+
+-- one row more, as it is lent
+module _ (ws counts : List ℕ) (r : ℕ) {row : List ℕ} (len : length ws ≡ 1809) (few : get_or ws 0 0 ≤ 128) (at : Counting ws counts r)
+    (more : r < get_or ws 0 0) (lent : row ≡ take 14 (rows_from ws r)) where
   left : get_or ws 0 0 - r ≡ suc (get_or ws 0 0 - (r + 1))
   left = omega arith
+
+  row_is : row_ok row ≡ row_ok (rows_from ws r)
+  row_is = ap row_ok lent ∙ row_cut (rows_from ws r) (simp length-drop (omega arith))
+
+  writer-is : get_or row 0 0 ≡ writer_at ws r
+  writer-is = ap (λ (l : List ℕ). get_or l 0 0) lent ∙ get_or-take 14 (rows_from ws r) 0 0 (omega arith) ∙ first_word ws r
+
+  length-row : length row ≡ 14
+  length-row = ap length lent ∙ simp (length-take, length-drop) (omega arith)
 
   rows_next : (row_ok (rows_from ws r) && rows_ok (get_or ws 0 0 - (r + 1)) (rows_from ws (r + 1))) ≡ rows_ok (get_or ws 0 0) (drop 17 ws)
   rows_next =
@@ -100,8 +119,8 @@ module _ (ws counts : List ℕ) (r : ℕ) (at : Counting ws counts r) (more : r 
       ∙ ap (λ (k : ℕ). rows_ok k (rows_from ws r)) (sym left)
       ∙ at.rows
 
-  pub row-bad : row_ok (rows_from ws r) ≡ false → sound ws ≡ false
-  row-bad e = unsound ws (λ s. clash (rows_ok (get_or ws 0 0) (drop 17 ws)) (sound-facts ws s).rows (sym rows_next ∙ rw e))
+  pub row-bad : row_ok row ≡ false → sound ws ≡ false
+  row-bad e = unsound ws (λ s. clash (rows_ok (get_or ws 0 0) (drop 17 ws)) (sound-facts ws s).rows (sym rows_next ∙ rw (sym row_is ∙ e)))
 
   live-next : (who : ℕ) → live who (entries_at (get_or ws 0 0 - r) (rows_from ws r))
       ≡ cond (eqb (writer_at ws r) who) 1 0 + live who (entries_at (get_or ws 0 0 - (r + 1)) (rows_from ws (r + 1)))
@@ -110,16 +129,16 @@ module _ (ws counts : List ℕ) (r : ℕ) (at : Counting ws counts r) (more : r 
       ∙ live-cons who (entry_at (rows_from ws r)) (entries_at (get_or ws 0 0 - (r + 1)) (drop 14 (rows_from ws r)))
       ∙ ap₂ (λ (w : ℕ) (l : List ℕ). cond (eqb w who) 1 0 + live who (entries_at (get_or ws 0 0 - (r + 1)) l)) (first_word ws r) (rows-after ws r)
 
-  -- the writer has as many as it may have before this row
-  pub too_many : {w : ℕ} → w ≡ writer_at ws r → w ≤ 7 → 16 ≤ get_or counts w 0 → sound ws ≡ false
-  too_many {w} e l h =
+  -- the writer w has as many as it may have before this row
+  too-many-of : {w : ℕ} → w ≡ writer_at ws r → w ≤ 7 → 16 ≤ get_or counts w 0 → sound ws ≡ false
+  too-many-of {w} e l h =
       let next : live w (entries_at (get_or ws 0 0 - r) (rows_from ws r)) ≡ 1 + live w (entries_at (get_or ws 0 0 - (r + 1)) (rows_from ws (r + 1))) =
       live-next w ∙ rw (← e, eqb_same w) in
       unsound ws (λ s. omega (arith, at.count w l, (wf-decode ws s).limits w))
 
-  pub counting_more : {w : ℕ} → w ≡ writer_at ws r → w ≤ 7 → row_ok (rows_from ws r) ≡ true → get_or counts w 0 < 16
+  counting-of : {w : ℕ} → w ≡ writer_at ws r → w ≤ 7 → row_ok (rows_from ws r) ≡ true → get_or counts w 0 < 16
       → Counting ws (raised counts w) (r + 1)
-  counting_more {w} q l e h =
+  counting-of {w} q l e h =
       let fits : w < length counts = omega (arith, at.len) in
       record {
         bound = omega arith;
@@ -128,6 +147,15 @@ module _ (ws counts : List ℕ) (r : ℕ) (at : Counting ws counts r) (more : r 
         count = λ who k. rw (raised_at counts w who fits) (omega (arith, at.count who k, rw (← q) at (live-next who)));
         within = λ who k. rw (raised_at counts w who fits) (raised-le counts w who h (at.within who k));
       }
+
+  pub writer-low : row_ok row ≡ true → get_or row 0 0 ≤ 7
+  writer-low e = writer-le row length-row e
+
+  pub too_many : row_ok row ≡ true → 16 ≤ get_or counts (get_or row 0 0) 0 → sound ws ≡ false
+  too_many e h = too-many-of writer-is (writer-low e) h
+
+  pub counting_more : row_ok row ≡ true → get_or counts (get_or row 0 0) 0 < 16 → Counting ws (raised counts (get_or row 0 0)) (r + 1)
+  counting_more e h = counting-of writer-is (writer-low e) (sym row_is ∙ e) h
 
 all-parties : (p : ℕ → Bool) → ((who : ℕ) → who ≤ 7 → p who ≡ true) → all p parties ≡ true
 all-parties p h =

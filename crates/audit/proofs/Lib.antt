@@ -1,4 +1,4 @@
 pub mod HoldingLaws
 pub mod Counting
-pub mod Answers
+pub mod Audits
 pub mod Rest

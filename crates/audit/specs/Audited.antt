@@ -1,14 +1,12 @@
 -- What the audit of a space answers.
-use Rattle.std.specs.Prelude.{◌≡◌, Bool, true, false, cond, List, ℕ, ◌≤◌, get_or, drop}
+use Rattle.std.specs.Prelude.{◌≡◌, true, false, cond, List, ℕ, ◌≤◌, get_or, drop, Option, Some, None}
 use Rattle.rules.specs.Lists.{all}
 use Rattle.rules.specs.State.{live}
 use Rattle.rules.specs.Words.{row_start, decode, is_zero, rows_ok, within_limits, sound}
-use Rattle.audit.specs.declared.Finding.{Finding}
-use Rattle.audit.specs.declared.Finding.TheVariants.{Unsound, Sound}
 
--- S1, S2, S4 to S9, A1: whether the words are sound and, if so, how many live entries the party has
-unfoldable pub audited : List ℕ → ℕ → Finding
-audited ws who = cond (sound ws) (Sound (live who (decode ws).entries)) Unsound
+-- S1, S2, S4 to S9, A1: of sound words, how many live entries the party has
+unfoldable pub audited : List ℕ → ℕ → Option ℕ
+audited ws who = cond (sound ws) (Some (live who (decode ws).entries)) None
 
 -- S6 to S8, A1: the live rows are good, so that what is past them decides; every party is within its limit, and its entries are counted
 pub record Counted (ws counts : List ℕ) : Type 0 where
@@ -17,6 +15,6 @@ pub record Counted (ws counts : List ℕ) : Type 0 where
   pub charges : (who : ℕ) → who ≤ 7 → get_or counts who 0 ≡ live who (decode ws).entries
 
 -- what the answer of the pass over the live rows says
-abbrev pub AfterRows : Bool → List ℕ → List ℕ → Type 0
-AfterRows true ws counts = Counted ws counts
-AfterRows false ws counts = sound ws ≡ false
+abbrev pub AfterRows : Option (List ℕ) → List ℕ → Type 0
+AfterRows (Some counts) ws = Counted ws counts
+AfterRows None ws = sound ws ≡ false

@@ -1,43 +1,36 @@
--- What holds whenever the console is about to print: the next line begins within the input, and fewer lines are left each time.
-use Prim.Native.Nat.{ℕ, suc, ◌+◌, ◌-◌, ◌≤◌, ◌<◌}
-use mathlib.Core.Path.{◌≡◌}
-use mathlib.Core.List.{List}
+-- What holds whenever the console is about to print: fewer bytes are left each time, past a line feed for each line before them.
+use Prim.Native.Nat.{ℕ, suc, ◌+◌, ◌≤◌, ◌<◌}
+use mathlib.Core.Path.{ap, ◌∙◌}
+use mathlib.Core.List.{List, ◌∷◌}
 use native.Mathlib.Omega.{arith}
-use lib.ListN.{length, take, length-take}
-use Rattle.session.specs.Steps.{Ready, printed_by, Onward}
-use Rattle.session.specs.declared.Turn.{Turn}
-use Rattle.session.specs.declared.Turn.TheVariants.{Stop, Go}
+use lib.ListN.{length, length-append}
+use Rattle.std.specs.Prelude.{Option, Some, None}
+use Rattle.session.specs.Steps.{Ready, calls_of, LaterLines, Onward}
+use Rattle.session.specs.declared.LineStart.{LineStart}
 
--- where the session goes on: the next line begins within the input, past a line feed for each line before it
-abbrev pub Fine : Turn → ℕ → List ℕ → List ℕ → Type 0
-Fine (Stop k) n roster space = Unit {0}
-Fine (Go from s k) n roster space = (from.number ≤ from.at + 1) × (from.at ≤ n) × Ready s roster space × (s.calls + 1 ≤ from.number)
+-- where the session goes on: no number is above the bytes before it
+abbrev pub Fine : Option LineStart → List ℕ → Type 0
+Fine None space = Unit {0}
+Fine (Some next) space =
+    (next.number + length next.lines.now ≤ 65537) × Ready next.session space × (calls_of next.session + 1 ≤ next.number)
 
-pub record Running (input : List ℕ) (n : ℕ) (space roster out : List ℕ) (turn : Turn) : Type 0 where
-  pub input_len : length input ≡ 65537
-  pub few : n ≤ 65536
-  pub space_len : length space ≡ 1809
-  pub roster_len : length roster ≡ 16
-  pub out_len : length out ≡ 256
-  pub fits : printed_by turn ≤ 256
-  pub fine : Fine turn n roster space
+-- how many bytes are left, and one for the turn itself
+abbrev pub left : Option LineStart → ℕ
+left None = 0
+left (Some next) = suc (length next.lines.now)
 
--- how many bytes are left
-abbrev pub left : Turn → ℕ → ℕ
-left (Stop k) n = 0
-left (Go from s k) n = suc (n - from.at)
+later-shorter : (lines later : List ℕ) → LaterLines lines later → length later < length lines
+later-shorter lines later h =
+    let e = ap length h.1 ∙ length-append h.0 (10 ∷ later) in
+    omega arith
 
-module _ (input : List ℕ) (n : ℕ) (whole : length input ≡ 65537) (few : n ≤ 65536) where
-  taken : length (take n input) ≡ n
-  taken = simp length-take (omega arith)
+module _ (lines : List ℕ) (number calls : ℕ) (space : List ℕ) where
+  pub turn-fine : (r : Option LineStart) → Onward r lines number calls space → number + length lines ≤ 65537 → calls + 1 ≤ number → Fine r space
+  turn-fine None h a b = tt
+  turn-fine (Some next) h a b =
+      let l = later-shorter lines next.lines.now h.0 in
+      (omega (arith, l, h.1), h.2, omega (arith, h.1, h.3))
 
-  pub turn-fine : (r : Turn) (at number calls : ℕ) (roster space : List ℕ) → Onward r at number calls (take n input) roster space → number ≤ at + 1
-      → calls + 1 ≤ number → Fine r n roster space
-  turn-fine (Stop k) at number calls roster space h a b = tt
-  turn-fine (Go from s k) at number calls roster space h a b =
-      let l = taken in (omega (arith, h.0, h.2), omega (arith, h.1), h.3, omega (arith, h.2, h.4))
-
-  pub turn-less : (r : Turn) (at number calls : ℕ) (roster space : List ℕ) → Onward r at number calls (take n input) roster space → at ≤ n
-      → left r n < suc (n - at)
-  turn-less (Stop k) at number calls roster space h l = omega arith
-  turn-less (Go from s k) at number calls roster space h l = let m = taken in omega (arith, h.0, h.1)
+  pub turn-less : (r : Option LineStart) → Onward r lines number calls space → left r < suc (length lines)
+  turn-less None h = omega arith
+  turn-less (Some next) h = let l = later-shorter lines next.lines.now h.0 in omega arith

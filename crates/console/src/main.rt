@@ -1,8 +1,6 @@
 // The console: reads standard input, hands each line to the session, and writes what it prints.
 #![tactic(auto)]
 
-use session::Turn;
-
 fn main() {
     let mut input = [0u8; 65537];
     let mut space = [0u64; 1809];
@@ -14,12 +12,12 @@ fn main() {
         return;
     }
     let mut turn = session::begin(&input[..n], &mut out);
+    // a `while let` over the turns would need the write twice
     loop {
-        let k = session::printed(turn);
-        io::write_all(1, &out[..k]);
-        let Turn::Go(from, s, _) = turn else {
+        io::write_all(1, &out[..turn.printed]);
+        let Some(from) = turn.next else {
             return;
         };
-        turn = session::take_turn(s, &input[..n], from, &mut roster, &mut space, &mut out);
+        turn = session::take_turn(from, &mut roster, &mut space, &mut out);
     }
 }

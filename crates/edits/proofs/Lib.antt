@@ -1,3 +1,3 @@
 pub mod Store
-pub mod Tails
+pub mod Written
 pub mod Lent

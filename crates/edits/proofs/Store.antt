@@ -1,12 +1,12 @@
--- A loop that writes a list towards a list f, from the front: at i it has the first i elements of f, and d's from i on.
-use Prim.Native.Nat.{ℕ, zero, suc, ◌+◌, ◌-◌, ◌≤◌, ◌<◌}
+-- Words written one after another from the front: at i the first i are those of a list f, and the rest are as they were in d.
+use Prim.Native.Nat.{ℕ, zero, suc, ◌+◌, ◌≤◌, ◌<◌}
 use mathlib.Core.Path.{◌≡◌, refl, ap, ◌∙◌}
 use mathlib.Core.List.{List, [], ◌∷◌, ◌++◌, append-nil}
 use native.Mathlib.Nat.{le_of_suc-le-suc, not-suc-le-zero, add_comm}
 use native.Mathlib.Numerals.{add-one}
 use native.Mathlib.Omega.{arith}
 use lib.ListN.{length, take, drop, get_or, set, length-take, length-drop, drop_of_length-le}
-use lib.Seq.{get_or-append-add, get_or-drop, take_at, take_all, take-length, drop-length}
+use lib.Seq.{get_or-append-add, get_or-drop}
 
 store-suc : (f d : List ℕ) (i : ℕ) → i < length f → i < length d → set (take i f ++ drop i d) i (get_or f i 0) ≡ take (suc i) f ++ drop (suc i) d
 store-suc [] d i h k = absurd (not-suc-le-zero h)
@@ -30,20 +30,6 @@ move-more d p i k h l =
     let v : get_or p (i + k) 0 ≡ get_or (drop k d) i 0 =
     rw (h, past-seam (take i (drop k d)) (drop i d) i k n, get_or-drop i d k 0, get_or-drop k d i 0) (ap (λ (j : ℕ). get_or d j 0) (add_comm i k)) in
     store (drop k d) d p i _ h v (simp length-drop (omega arith)) (omega arith)
-
--- all of the rest is moved up
-pub move_all : (d p : List ℕ) (n i k : ℕ) → p ≡ take i (drop k d) ++ drop i d → i ≡ n → n ≡ length d - k → take n p ≡ drop k d
-move_all d p n i k h e l =
-    let len : length (take n (drop k d)) ≡ n = simp (length-take, length-drop) (omega arith) in
-    rw (h, e, take_at (take n (drop k d)) (drop n d) n len) (take_all n (drop k d) (simp length-drop (omega arith)))
-
--- all of f is written
-pub store-all : (f d p : List ℕ) (i : ℕ) → p ≡ take i f ++ drop i d → length f ≡ length d → i ≡ length f → p ≡ f
-store-all f d p i h e m =
-    let m' : i ≡ length d = omega arith in
-    let a : take i f ≡ f = rw m (take-length f) in
-    let b : drop i d ≡ [] = rw m' (drop-length d) in
-    h ∙ rw (a, b) (append-nil f)
 
 -- as many words come in the place of all that there are
 pub all-replaced : (src dst : List ℕ) → length dst ≡ length src → src ++ drop (length src) dst ≡ src

@@ -1,7 +1,8 @@
--- An entry from the values of its row.
-use Rattle.std.specs.Prelude.{List, ℕ}
-use Rattle.rules.specs.Matching.{pair, Entry}
+-- The code's entries, as the entries that they stand for.
+use Rattle.rules.specs.Matching as matching
+use Rattle.words.specs.Pairs.{meant_stored}
+use Rattle.edits.specs.declared.Entry.{Entry}
 
--- E1: writer, set of the read pair, stored read key, set of the take pair, stored take key, fields
-abbrev pub entry : ℕ → ℕ → ℕ → ℕ → ℕ → List ℕ → Entry
-entry writer rp rk tp tk fields = record { writer = writer; read_pair = pair rp rk; take_pair = pair tp tk; fields = fields }
+-- E1
+abbrev pub meant : Entry → matching.Entry
+meant e = record { writer = e.writer; read_pair = meant_stored e.read; take_pair = meant_stored e.take; fields = e.fields.now }

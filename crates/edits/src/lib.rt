@@ -1,33 +1,52 @@
-// The edits of a space's rows: one added, one removed, fields copied out.
+// The edits of a space's rows: one added, one removed, words copied in or cleared.
 #![tactic(auto)]
 
 ghost use Rattle.std.specs.Prelude.{◌≡◌, true, [], ◌∷◌, ◌++◌, suc, ◌-◌, ◌<◌, ◌≤◌, length, take, drop, get_or};
 ghost use Rattle.rules.specs.State.{with_entries};
 ghost use Rattle.rules.specs.Words.{zeros, row_of, encode, decode, sound};
-ghost use Rattle.edits.specs.Row.{entry};
+ghost use Rattle.edits.specs.Row.{meant};
 
-// C4: each row of the part gives way to the one after it, and the last is cleared.
+use words::StoredPair;
+
+// E1: an entry as it comes to stand in a row.
+#[derive(Clone, Copy)]
+pub struct Entry<'a> {
+    pub writer: u64,
+    pub read: StoredPair,
+    pub take: StoredPair,
+    pub fields: &'a [u64],
+}
+
+// C4: each row of the part gives way to the one after it, and the last is cleared. A `for`, here and in `copy_in`: the boards'
+// build takes no copy by the library, which compares pointers (board/module.py).
 fn close_up(part: &mut [u64])
     requires { 14 ≤ length part.old }
     ensures { part.new ≡ drop 14 part.old ++ zeros 14 }
 {
     let n = part.len() - 14;
-    let mut i = 0;
-    while i < n {
+    for i in 0..n {
         part[i] = part[i + 14];
-        i += 1;
     }
     clear(&mut part[n..]);
 }
 
 // L4: every word becomes 0, as past the live rows.
+#[tactic(auto, unfolding(rules::specs::Words::zeros))]
 pub fn clear(part: &mut [u64])
     ensures { part.new ≡ zeros (length part.old) }
 {
-    let mut i = 0;
-    while i < part.len() {
-        part[i] = 0;
-        i += 1;
+    for w in part {
+        *w = 0;
+    }
+}
+
+// C3: the source comes first in the destination, and the rest is kept.
+pub fn copy_in(src: &[u64], dst: &mut [u64])
+    requires { length src.now ≤ length dst.old }
+    ensures { dst.new ≡ src.now ++ drop (length src.now) dst.old }
+{
+    for i in 0..src.len() {
+        dst[i] = src[i];
     }
 }
 
@@ -44,82 +63,29 @@ pub fn remove_row(space: &mut [u64], row: usize)
     space[0] = (live - 1) as u64;
 }
 
-// C3: the source comes first in the destination, and the rest is kept.
-pub fn copy_in(src: &[u64], dst: &mut [u64])
-    requires { length src.now ≤ length dst.old }
-    ensures { dst.new ≡ src.now ++ drop (length src.now) dst.old }
-{
-    let mut i = 0;
-    while i < src.len() {
-        dst[i] = src[i];
-        i += 1;
-    }
-}
-
 // L4: the 14 words of an entry's row.
-fn write_row(
-    row: &mut [u64],
-    writer: u64,
-    rparts: u64,
-    rkey: u64,
-    tparts: u64,
-    tkey: u64,
-    fields: &[u64],
-)
-    requires { (length row.old ≡ 14) × (length fields.now ≤ 8) }
-    ensures { row.new ≡ row_of (entry writer rparts rkey tparts tkey fields.now) }
+fn write_row(row: &mut [u64], entry: Entry<'_>)
+    requires { (length row.old ≡ 14) × (length entry.fields.now ≤ 8) }
+    ensures { row.new ≡ row_of (meant entry.entry) }
 {
-    write_head(row, writer, rparts, rkey, tparts, tkey, fields.len() as u64);
-    write_fields(&mut row[6..], fields);
-}
-
-// L4: the words before the fields.
-fn write_head(row: &mut [u64], writer: u64, rparts: u64, rkey: u64, tparts: u64, tkey: u64, n: u64)
-    requires { 6 ≤ length row.old }
-    ensures { row.new ≡ (writer ∷ rparts ∷ rkey ∷ tparts ∷ tkey ∷ n ∷ []) ++ drop 6 row.old }
-{
-    row[0] = writer;
-    row[1] = rparts;
-    row[2] = rkey;
-    row[3] = tparts;
-    row[4] = tkey;
-    row[5] = n;
-}
-
-// L4: the fields, and 0 past them.
-fn write_fields(part: &mut [u64], fields: &[u64])
-    requires { length fields.now ≤ length part.old }
-    ensures { part.new ≡ fields.now ++ zeros (length part.old - length fields.now) }
-{
-    let n = fields.len();
-    copy_in(fields, part);
-    clear(&mut part[n..]);
+    let n = entry.fields.len();
+    row[0] = entry.writer;
+    row[1] = entry.read.partitions;
+    row[2] = entry.read.key;
+    row[3] = entry.take.partitions;
+    row[4] = entry.take.key;
+    row[5] = n as u64;
+    copy_in(entry.fields, &mut row[6..]);
+    clear(&mut row[6 + n..]);
 }
 
 // C2: the entry becomes the newest.
-pub fn add_row(
-    space: &mut [u64],
-    writer: u64,
-    rparts: u64,
-    rkey: u64,
-    tparts: u64,
-    tkey: u64,
-    fields: &[u64],
-)
-    requires { (sound space.old ≡ true) × (get_or space.old 0 0 < 128) × (length fields.now ≤ 8) }
-    ensures { space.new ≡ encode (with_entries ((decode space.old).entries ++ (entry writer rparts rkey tparts tkey fields.now ∷ [])) (decode space.old)) }
+pub fn add_row(space: &mut [u64], entry: Entry<'_>)
+    requires { (sound space.old ≡ true) × (get_or space.old 0 0 < 128) × (length entry.fields.now ≤ 8) }
+    ensures { space.new ≡ encode (with_entries ((decode space.old).entries ++ (meant entry.entry ∷ [])) (decode space.old)) }
 {
     let live = space[0] as u32;
     let at = starts::start(live) as usize;
-    let end = at + 14;
-    write_row(
-        &mut space[at..end],
-        writer,
-        rparts,
-        rkey,
-        tparts,
-        tkey,
-        fields,
-    );
+    write_row(&mut space[at..at + 14], entry);
     space[0] = (live + 1) as u64;
 }

@@ -49,10 +49,10 @@ fn bad_names() {
 // The names line and empty lines, which can't be read: as long as a file may be, and longer.
 fn long_files() {
     let mut longest = [10u8; 16384];
-    numbers::place(b"party kind name\n", &mut longest, 0);
+    longest[..16].copy_from_slice(b"party kind name\n");
     file(b"file, 16384 bytes, empty lines", &longest);
     let mut longer = [10u8; 16385];
-    numbers::place(b"party kind name\n", &mut longer, 0);
+    longer[..16].copy_from_slice(b"party kind name\n");
     file(b"file, 16385 bytes, empty lines", &longer);
 }
 
@@ -81,5 +81,5 @@ fn file(text: &[u8], bytes: &[u8]) {
 // As a program in C makes the call, with words that are the same before it.
 fn file_into(text: &[u8], bytes: &[u8], before: &[u64], words: &mut [u64]) {
     let code = space_c::space_read_roster(bytes, words);
-    refusal_lines::show_code(text, code, before, words);
+    refusal_lines::show(text, code, before, words);
 }

@@ -1,7 +1,7 @@
 // The edits of a space's holdings: names held, and an opening.
 #![tactic(auto)]
 
-ghost use Rattle.std.specs.Prelude.{◌≡◌, true, map, ◌≤◌, ◌<◌, length};
+ghost use Rattle.std.specs.Prelude.{◌≡◌, true, map, ◌<◌, length};
 ghost use Rattle.rules.specs.Names.{with_bit};
 ghost use Rattle.rules.specs.Fields.{field, name_in, names_in};
 ghost use Rattle.rules.specs.State.{give_all};
@@ -15,52 +15,35 @@ fn hold_name(space: &mut [u64], party: usize, w: u64)
     requires { (sound space.old ≡ true) × (party < 8) }
     ensures { space.new ≡ encode (give_all party (name_in (field w)) (decode space.old)) }
 {
-    let f = words::field_of(w);
-    match f {
-        Field::Message(_) => {}
-        Field::Partition(c) => {
-            let partitions = words::with_bit(space[1 + party], c);
-            space[1 + party] = partitions;
-        }
-        Field::Key(k) => {
-            let keys = words::with_bit(space[9 + party], k);
-            space[9 + party] = keys;
-        }
-        Field::Wildcard => {}
-        Field::AtLeast(_) => {}
-        Field::AtMost(_) => {}
-        Field::Bad => {}
+    match Field::from(w) {
+        Field::Partition(c) => words::set_bit(space, 1 + party, c),
+        Field::Key(k) => words::set_bit(space, 9 + party, k),
+        _ => {}
     }
 }
 
 // C3: the party holds each name in the fields.
 pub fn hold_names(space: &mut [u64], party: usize, fields: &[u64])
-    requires { (sound space.old ≡ true) × (party < 8) × (length fields.now ≤ 8) }
+    requires { (sound space.old ≡ true) × (party < 8) }
     ensures { space.new ≡ encode (give_all party (names_in fields.now) (decode space.old)) }
 {
-    let n = fields.len() as u32;
-    let mut i = 0;
-    while i < n {
-        hold_name(space, party, fields[i as usize]);
-        i += 1;
+    for w in fields {
+        hold_name(space, party, *w);
     }
 }
 
-// C1: each word of the source, with the bit set.
-fn with_all(src: &[u64], dst: &mut [u64], c: u64)
-    requires { (length src.now ≡ length dst.old) × (c < 64) }
-    ensures { dst.new ≡ map (λ w. with_bit w c) src.now }
+// C1: each word, with the bit set.
+fn with_all(keys: &mut [u64], c: u64)
+    requires { c < 64 }
+    ensures { keys.new ≡ map (λ w. with_bit w c) keys.old }
 {
-    let mut i = 0;
-    while i < src.len() {
-        let w = words::with_bit(src[i], c);
-        dst[i] = w;
-        i += 1;
+    for w in keys {
+        *w = words::with_bit(*w, c);
     }
 }
 
-// C1: no entries, the roster's holdings, and key 0 for everyone. Only the rows are cleared, since every other word is
-// written.
+// C1: no entries, the roster's holdings, whose words stand as in the space, and key 0 for everyone. Only the rows are cleared,
+// since every other word is written. By `edits`: the boards' build takes no copy by the library (board/module.py).
 pub fn fill(space: &mut [u64], roster: &[u64])
     requires { (length space.old ≡ 1809) × (length roster.now ≡ 16) }
     ensures { space.new ≡ encode (opened roster.now) }
@@ -68,7 +51,7 @@ pub fn fill(space: &mut [u64], roster: &[u64])
     let rows = starts::start(0) as usize;
     let end = starts::END as usize;
     edits::clear(&mut space[rows..end]);
-    edits::copy_in(&roster[0..8], &mut space[1..9]);
-    with_all(&roster[8..16], &mut space[9..17], 31);
+    edits::copy_in(roster, &mut space[1..17]);
+    with_all(&mut space[9..17], 31);
     space[0] = 0;
 }

@@ -1,2 +1,2 @@
-pub mod Items
+pub mod Cuts
 pub mod Readers

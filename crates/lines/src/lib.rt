@@ -1,307 +1,206 @@
 // Reading a line of the console: seven items, as a gift to the roster or as a call.
 #![tactic(auto)]
 
-ghost use Rattle.std.specs.Prelude.{◌≡◌, cond, List, ℕ, leb, length};
-ghost use Rattle.std.proofs.Math.Option.{none, some};
-ghost use Rattle.rules.specs.Names.{key_in_range, stored};
+ghost use Rattle.std.specs.Prelude.{◌≡◌, List, ℕ};
 ghost use Rattle.text.specs.Numbers.{unsigned, signed};
 ghost use Rattle.text.specs.Partitions.{read_partitions};
-ghost use Rattle.text.specs.Fields.{read_fields};
-ghost use Rattle.text.specs.Answers.{number_of, signed_of, set_of};
 ghost use Rattle.search.specs.Place as place;
 ghost use Rattle.numbers.specs.Parts.{same};
-ghost use Rattle.lines.specs.Lines.{blanks, item, dash, optional, pair_of, read_give, read_put, read_seek, op_of, read_line};
-ghost use Rattle.lines.specs.Parts.{PartIs};
-ghost use Rattle.lines.specs.Read.{no_take_pair, meant_gift, meant_op, meant_pair, FieldsAre, LineIs};
+ghost use Rattle.lines.specs.Lines.{dash, pair_of, op_of, read_line};
+ghost use Rattle.lines.specs.Read.{no_take_pair, partition_gift, key_gift, give_in, put_in, seek_in, meant_gift, meant_op, meant_pair, ItemsAre, LineIs};
 
 use search::Op;
-use text::{Fields, Number, Partitions, SignedNumber};
+use words::Pair;
 
-// A part of a line, from its first byte to the one past its last.
+// T15: the items of a line, named as in the names line.
 #[derive(Clone, Copy)]
-struct Part {
-    start: usize,
-    end: usize,
+struct Items<'a> {
+    call: &'a [u8],
+    party: &'a [u8],
+    rpart: &'a [u8],
+    rkey: &'a [u8],
+    tpart: &'a [u8],
+    tkey: &'a [u8],
+    fields: &'a [u8],
 }
 
-// T12: what a gift has of a partition or of a stored key.
-#[derive(Clone, Copy)]
-pub enum Gift {
-    Missing,
-    Name(u64),
-}
-
-#[derive(Clone, Copy)]
-enum ReadGift {
-    Value(Gift),
-    Unreadable,
-}
-
-// T11: the operation that a word names.
-#[derive(Clone, Copy)]
-enum ReadOp {
-    Value(Op),
-    Unreadable,
-}
-
-// A set of partitions and a key.
-#[derive(Clone, Copy)]
-enum ReadPair {
-    Value(u64, i32),
-    Unreadable,
-}
-
-// C2 to C4, C8: a call. Its number of fields comes last; their words are the first of those lent.
+// C2 to C4, C8: a call. The words of its fields are the first `count` of those lent.
 #[derive(Clone, Copy)]
 pub enum Call {
-    // The party, the read pair, the take pair.
-    Put(u32, u64, i32, u64, i32, usize),
-    // Look, receive or take, the party, the template's pair.
-    Seek(Op, u32, u64, i32, usize),
+    Put {
+        party: u32,
+        read: Pair,
+        take: Pair,
+        count: usize,
+    },
+    Seek {
+        op: Op,
+        party: u32,
+        pair: Pair,
+        count: usize,
+    },
 }
 
-// T11: what a line asks for.
+// T11, T12: what a line asks for. A gift may leave out its partition and its stored key.
 #[derive(Clone, Copy)]
 pub enum Line {
-    Unreadable,
-    // The party, a partition, a key.
-    Give(u32, Gift, Gift),
+    Give {
+        party: u32,
+        partition: Option<u64>,
+        key: Option<u64>,
+    },
     Ask(Call),
 }
 
-// T15
-fn blanks(line: &[u8]) -> usize
-    ensures { result ≡ blanks line.now }
+// T15: none, where a line doesn't have six blanks.
+#[tactic(auto, using(crate::proofs::Cuts::past_cut, crate::proofs::Cuts::blanks_cut, crate::proofs::Cuts::one_item))]
+fn split(line: &[u8]) -> Option<Items<'_>>
+    ensures { ItemsAre line.now result }
 {
-    let mut n: usize = 0;
-    let mut i = 0;
-    while i < line.len() {
-        if line[i] == 32 {
-            n += 1;
-        }
-        i += 1;
+    let (call, rest) = numbers::split_once(line, b' ')?;
+    let (party, rest) = numbers::split_once(rest, b' ')?;
+    let (rpart, rest) = numbers::split_once(rest, b' ')?;
+    let (rkey, rest) = numbers::split_once(rest, b' ')?;
+    let (tpart, rest) = numbers::split_once(rest, b' ')?;
+    let (tkey, fields) = numbers::split_once(rest, b' ')?;
+    if fields.contains(&b' ') {
+        return None;
     }
-    n
+    Some(Items {
+        call,
+        party,
+        rpart,
+        rkey,
+        tpart,
+        tkey,
+        fields,
+    })
 }
 
-// T15: left at the blank that ends the item; past the last item there is none.
-fn item(line: &[u8], i: usize) -> Part
-    ensures { PartIs (item i line.now) line.now result.start result.end }
+fn pair_in(partitions: &[u8], key: &[u8]) -> Option<Pair>
+    ensures { meant_pair result ≡ pair_of (read_partitions partitions.now) (signed key.now) }
 {
-    let mut before = i;
-    let mut start = 0;
-    let mut at = 0;
-    while at < line.len() {
-        if line[at] == 32 {
-            if before == 0 {
-                return Part { start, end: at };
-            }
-            before -= 1;
-            start = at + 1;
-        }
-        at += 1;
-    }
-    if before == 0 {
-        return Part { start, end: at };
-    }
-    Part { start: at, end: at }
+    let partitions = text::read_partitions(partitions)?;
+    let key = text::read_signed(key)?;
+    Some(Pair { partitions, key })
 }
 
-fn item_is(line: &[u8], i: usize, word: &[u8]) -> bool
-    ensures { result ≡ same (item i line.now) word.now }
+fn is_dash(item: &[u8]) -> bool
+    ensures { result ≡ same item.now dash }
 {
-    let part = item(line, i);
-    let start = part.start;
-    let end = part.end;
-    numbers::same(&line[start..end], word)
-}
-
-fn number_in(line: &[u8], i: usize) -> Number
-    ensures { result ≡ number_of (unsigned (item i line.now)) }
-{
-    let part = item(line, i);
-    let start = part.start;
-    let end = part.end;
-    text::read_unsigned(&line[start..end])
-}
-
-fn key_in(line: &[u8], i: usize) -> SignedNumber
-    ensures { result ≡ signed_of (signed (item i line.now)) }
-{
-    let part = item(line, i);
-    let start = part.start;
-    let end = part.end;
-    text::read_signed(&line[start..end])
-}
-
-fn partitions_in(line: &[u8], i: usize) -> Partitions
-    ensures { result ≡ set_of (read_partitions (item i line.now)) }
-{
-    let part = item(line, i);
-    let start = part.start;
-    let end = part.end;
-    text::read_partitions(&line[start..end])
-}
-
-fn pair_in(line: &[u8], i: usize, j: usize) -> ReadPair
-    ensures { meant_pair result ≡ pair_of (read_partitions (item i line.now)) (signed (item j line.now)) }
-{
-    let Partitions::Set(partitions) = partitions_in(line, i) else {
-        return ReadPair::Unreadable;
-    };
-    let SignedNumber::Value(key) = key_in(line, j) else {
-        return ReadPair::Unreadable;
-    };
-    ReadPair::Value(partitions, key)
+    numbers::same(item, b"-")
 }
 
 // T12, T14: `-` for both.
-fn no_take_pair(line: &[u8]) -> bool
-    ensures { result ≡ no_take_pair line.now }
+fn no_take_pair(items: &Items<'_>) -> bool
+    ensures { result ≡ no_take_pair items.now.tpart.now items.now.tkey.now }
 {
-    item_is(line, 4, b"-") & item_is(line, 5, b"-")
-}
-
-// T12: `-`, or no number.
-fn left_out(line: &[u8], i: usize) -> ReadGift
-    ensures { meant_gift result ≡ cond (same (item i line.now) dash) (some none) none }
-{
-    if item_is(line, i, b"-") {
-        return ReadGift::Value(Gift::Missing);
-    }
-    ReadGift::Unreadable
+    is_dash(items.tpart) & is_dash(items.tkey)
 }
 
 // T12
-fn partition_gift(line: &[u8], i: usize) -> ReadGift
-    ensures { meant_gift result ≡ optional (λ p. leb p 63) (λ p. p) (item i line.now) (unsigned (item i line.now)) }
+fn partition_gift(item: &[u8]) -> Option<Option<u64>>
+    ensures { meant_gift result ≡ partition_gift item.now }
 {
-    let Number::Value(partition) = number_in(line, i) else {
-        return left_out(line, i);
-    };
-    if partition <= 63 {
-        return ReadGift::Value(Gift::Name(partition as u64));
+    match text::read_unsigned(item) {
+        Some(partition) if partition <= 63 => Some(Some(partition as u64)),
+        None if is_dash(item) => Some(None),
+        _ => None,
     }
-    ReadGift::Unreadable
+}
+
+// T12; one function with `partition_gift`, by closures, would be no shorter
+fn key_gift(item: &[u8]) -> Option<Option<u64>>
+    ensures { meant_gift result ≡ key_gift item.now }
+{
+    match text::read_signed(item) {
+        Some(key) if words::key_in_range(key) => Some(Some(words::stored_key(key))),
+        None if is_dash(item) => Some(None),
+        _ => None,
+    }
 }
 
 // T12
-fn key_gift(line: &[u8], i: usize) -> ReadGift
-    ensures { meant_gift result ≡ optional key_in_range stored (item i line.now) (signed (item i line.now)) }
+fn read_give(items: &Items<'_>) -> Option<Line>
+    ensures { (ws : List ℕ) → LineIs (give_in items.now) result ws }
 {
-    let SignedNumber::Value(key) = key_in(line, i) else {
-        return left_out(line, i);
-    };
-    if words::key_in_range(key) {
-        return ReadGift::Value(Gift::Name(words::stored_key(key)));
+    if !(no_take_pair(items) & is_dash(items.fields)) {
+        return None;
     }
-    ReadGift::Unreadable
-}
-
-// T12
-fn read_give(line: &[u8]) -> Line
-    ensures { (ws : List ℕ) → LineIs (read_give line.now) result ws }
-{
-    if !(no_take_pair(line) & item_is(line, 6, b"-")) {
-        return Line::Unreadable;
+    let party = text::read_unsigned(items.party)?;
+    let partition = partition_gift(items.rpart)?;
+    let key = key_gift(items.rkey)?;
+    if 7 < party {
+        return None;
     }
-    let Number::Value(who) = number_in(line, 1) else {
-        return Line::Unreadable;
-    };
-    let ReadGift::Value(partition) = partition_gift(line, 2) else {
-        return Line::Unreadable;
-    };
-    let ReadGift::Value(key) = key_gift(line, 3) else {
-        return Line::Unreadable;
-    };
-    if 7 < who {
-        return Line::Unreadable;
-    }
-    Line::Give(who, partition, key)
-}
-
-fn fields_in(line: &[u8], i: usize, words: &mut [u64]) -> Fields
-    requires { length words.old ≡ 16 }
-    ensures { FieldsAre (read_fields (item i line.now)) result words.new }
-{
-    let part = item(line, i);
-    let start = part.start;
-    let end = part.end;
-    text::read_fields(&line[start..end], words)
+    Some(Line::Give {
+        party,
+        partition,
+        key,
+    })
 }
 
 // T13
-fn read_put(line: &[u8], words: &mut [u64]) -> Line
-    requires { length words.old ≡ 16 }
-    ensures { LineIs (read_put line.now) result words.new }
+fn read_put(items: &Items<'_>, words: &mut [u64; 16]) -> Option<Line>
+    ensures { LineIs (put_in items.now) result words.new }
 {
-    let Number::Value(who) = number_in(line, 1) else {
-        return Line::Unreadable;
-    };
-    let ReadPair::Value(rparts, rkey) = pair_in(line, 2, 3) else {
-        return Line::Unreadable;
-    };
-    let ReadPair::Value(tparts, tkey) = pair_in(line, 4, 5) else {
-        return Line::Unreadable;
-    };
-    let Fields::Count(n) = fields_in(line, 6, words) else {
-        return Line::Unreadable;
-    };
-    Line::Ask(Call::Put(who, rparts, rkey, tparts, tkey, n))
+    let party = text::read_unsigned(items.party)?;
+    let read = pair_in(items.rpart, items.rkey)?;
+    let take = pair_in(items.tpart, items.tkey)?;
+    let count = text::read_fields(items.fields, words)?;
+    Some(Line::Ask(Call::Put {
+        party,
+        read,
+        take,
+        count,
+    }))
 }
 
 // T14
-fn read_seek(op: Op, line: &[u8], words: &mut [u64]) -> Line
-    requires { length words.old ≡ 16 }
-    ensures { LineIs (read_seek (place.meant op) line.now) result words.new }
+fn read_seek(op: Op, items: &Items<'_>, words: &mut [u64; 16]) -> Option<Line>
+    ensures { LineIs (seek_in (place.meant op) items.now) result words.new }
 {
-    if !no_take_pair(line) {
-        return Line::Unreadable;
+    if !no_take_pair(items) {
+        return None;
     }
-    let Number::Value(who) = number_in(line, 1) else {
-        return Line::Unreadable;
-    };
-    let ReadPair::Value(partitions, key) = pair_in(line, 2, 3) else {
-        return Line::Unreadable;
-    };
-    let Fields::Count(n) = fields_in(line, 6, words) else {
-        return Line::Unreadable;
-    };
-    Line::Ask(Call::Seek(op, who, partitions, key, n))
+    let party = text::read_unsigned(items.party)?;
+    let pair = pair_in(items.rpart, items.rkey)?;
+    let count = text::read_fields(items.fields, words)?;
+    Some(Line::Ask(Call::Seek {
+        op,
+        party,
+        pair,
+        count,
+    }))
 }
 
 // T11
-fn op_in(line: &[u8]) -> ReadOp
-    ensures { meant_op result ≡ op_of (item 0 line.now) }
+fn op_in(word: &[u8]) -> Option<Op>
+    ensures { meant_op result ≡ op_of word.now }
 {
-    if item_is(line, 0, b"look") {
-        return ReadOp::Value(Op::Looking);
+    // tried as a match on byte strings, and the proof didn't close: each byte that may differ is a goal of its own
+    if numbers::same(word, b"look") {
+        return Some(Op::Looking);
     }
-    if item_is(line, 0, b"receive") {
-        return ReadOp::Value(Op::Receiving);
+    if numbers::same(word, b"receive") {
+        return Some(Op::Receiving);
     }
-    if item_is(line, 0, b"take") {
-        return ReadOp::Value(Op::Taking);
+    if numbers::same(word, b"take") {
+        return Some(Op::Taking);
     }
-    ReadOp::Unreadable
+    None
 }
 
 // T15, T11: the fields of a call are read into the words.
-pub fn read_line(line: &[u8], words: &mut [u64]) -> Line
-    requires { length words.old ≡ 16 }
+pub fn read_line(line: &[u8], words: &mut [u64; 16]) -> Option<Line>
     ensures { LineIs (read_line line.now) result words.new }
 {
-    if blanks(line) != 6 {
-        return Line::Unreadable;
+    let items = split(line)?;
+    if numbers::same(items.call, b"give") {
+        return read_give(&items);
     }
-    if item_is(line, 0, b"give") {
-        return read_give(line);
+    if numbers::same(items.call, b"put") {
+        return read_put(&items, words);
     }
-    if item_is(line, 0, b"put") {
-        return read_put(line, words);
-    }
-    let ReadOp::Value(op) = op_in(line) else {
-        return Line::Unreadable;
-    };
-    read_seek(op, line, words)
+    read_seek(op_in(items.call)?, &items, words)
 }

@@ -1,6 +1,5 @@
 pub mod Digits
 pub mod Signed
-pub mod Parts
 pub mod Equal
 pub mod Placing
 pub mod Placed
@@ -8,3 +7,4 @@ pub mod Decimal
 pub mod Keys
 pub mod NumbersBack
 pub mod Lines
+pub mod Splits

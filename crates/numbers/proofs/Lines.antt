@@ -1,5 +1,5 @@
 -- The start of a text: when it is a good one, and what its first line's end tells of it.
-use Prim.Native.Nat.{ℕ, ◌+◌, ◌-◌, ◌≤◌, ◌<◌}
+use Prim.Native.Nat.{ℕ, ◌≤◌, ◌<◌}
 use mathlib.Core.Path.{◌≡◌, refl, sym, ap, ◌∙◌}
 use mathlib.Core.Logic.{◌⊎◌, inl, inr, ◌≢◌}
 use mathlib.Core.Bool.{Bool, true, false, cond}
@@ -8,13 +8,11 @@ use mathlib.Core.Option.{Option, none, some}
 use native.Mathlib.Omega.{arith}
 use borrow.Author.Tests.{eqb-true, ltb-true, ltb-false, lt-ltb, le-ltb}
 use lib.Dec.{eqb, ltb}
-use lib.ListN.{length, take, drop}
+use lib.ListN.{length}
 use Rattle.rules.specs.Claims.{Iff}
 use Rattle.rules.proofs.ListLaws.{bool}
 use Rattle.numbers.specs.Parts.{before, beyond, parts, same}
 use Rattle.numbers.specs.Lines.{lines_after, begun_with, BadStart, Begun}
-use Rattle.numbers.specs.Answers.{BeginsAt}
-use Rattle.numbers.proofs.Parts.{end-high, part-is, last-part, further-parts}
 use Rattle.numbers.proofs.Equal.{same-equal, equal-same}
 use Rattle.numbers.proofs.NumbersBack.{free, part_then}
 
@@ -103,31 +101,15 @@ module _ (most : ℕ) (names text : List ℕ) where
         back (inl l) = long-start l
         back (inr h) = other-start h
 
-  -- ---- by the first line, which ends at `end`
+  -- ---- by the first line, where the text is no longer than it may be
 
-  module _ (short : length text ≤ most) (end : ℕ) (e : end ≡ 0 + length (before 10 (drop 0 text))) where
-    low : 0 ≤ length text
-    low = omega arith
+  module _ (short : length text ≤ most) where
+    pub lone-start : parts 10 text ≡ text ∷ [] → begun_with most names text ≡ none
+    lone-start e = short-start short ∙ ap (lines_after names) e
 
-    pub first-end : end ≤ length text
-    first-end = end-high 10 text 0 end low e
+    module _ (first rest : List ℕ) (e : parts 10 text ≡ first ∷ parts 10 rest) where
+      pub names-found : same first names ≡ true → begun_with most names text ≡ some (parts 10 rest)
+      names-found h = short-start short ∙ ap (lines_after names) e ∙ rw h
 
-    pub unended-start : end ≡ length text → begun_with most names text ≡ none
-    unended-start h = short-start short ∙ ap (λ (ps : List (List ℕ)). lines_after names (before 10 text ∷ ps)) (last-part 10 text 0 end low e h)
-
-    module _ (n : end ≡ length text → ⊥) where
-      parted : begun_with most names text ≡ lines_after names (before 10 text ∷ parts 10 (drop (end + 1) text))
-      parted = short-start short ∙ ap (λ (ps : List (List ℕ)). lines_after names (before 10 text ∷ ps)) (further-parts 10 text 0 end low e n)
-
-      first-line : take end text ≡ before 10 text
-      first-line = let z : end - 0 ≡ end = omega arith in ap (λ (n : ℕ). take n text) (sym z) ∙ part-is 10 text 0 end low e
-
-      pub other-names : same (take end text) names ≡ false → begun_with most names text ≡ none
-      other-names h =
-          let q : same (before 10 text) names ≡ false = ap (λ (l : List ℕ). same l names) (sym first-line) ∙ h in
-          parted ∙ rw q
-
-      pub names-found : same (take end text) names ≡ true → BeginsAt most names text (end + 1)
-      names-found h =
-          let q : same (before 10 text) names ≡ true = ap (λ (l : List ℕ). same l names) (sym first-line) ∙ h in
-          record { lines = parted ∙ rw q; within = omega (arith, first-end, n); short = short }
+      pub other-names : same first names ≡ false → begun_with most names text ≡ none
+      other-names h = short-start short ∙ ap (lines_after names) e ∙ rw h

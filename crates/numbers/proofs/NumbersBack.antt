@@ -1,14 +1,18 @@
 -- The decimal digits of a number read back as that number, and the parts of a text between separators as these parts.
-use Prim.Native.Nat.{ℕ, suc, ◌+◌, ◌-◌, ◌*◌, ◌/◌, ◌%◌, ◌≤◌, ◌<◌}
-use mathlib.Core.Path.{◌≡◌, refl, ap, ◌∙◌}
+use Prim.Native.Nat.{ℕ, zero, suc, ◌+◌, ◌-◌, ◌*◌, ◌/◌, ◌%◌, ◌≤◌, ◌<◌}
+use mathlib.Core.Path.{◌≡◌, refl, sym, ap, ◌∙◌}
 use mathlib.Core.Logic.{◌⊎◌, inl, inr}
 use mathlib.Core.Bool.{Bool, true, false, not}
 use mathlib.Core.List.{List, [], ◌∷◌, ◌++◌}
 use mathlib.Core.Option.{some}
+use native.Mathlib.Numerals.{add-one}
 use native.Mathlib.Omega.{arith}
 use borrow.Author.Tests.{not-true, le-leb, eq-eqb, ne_eqb, ltb-true, ltb-false}
 use lib.Dec.{eqb, ltb}
 use lib.IntN.{ℤ, pos, negsuc}
+use lib.ListN.{length, get_or, take, drop, length-drop, take-append-drop}
+use lib.Seq.{drop-cons, take-length, take_all}
+use Rattle.std.specs.List.{AllWithin}
 use Rattle.rules.specs.Lists.{all}
 use Rattle.rules.proofs.ListLaws.{bool, clash, and_left, and_right}
 use Rattle.rules.proofs.Loops.{all_append}
@@ -142,3 +146,30 @@ part-last sep (b ∷ bs) e =
   where
     longer : (q : List ℕ) (ps : List (List ℕ)) → q ∷ ps ≡ bs ∷ [] → (b ∷ q) ∷ ps ≡ (b ∷ bs) ∷ []
     longer q ps h = let a : q ≡ bs = cc in let c : ps ≡ [] = cc in rw (a, c)
+
+-- ---- the first separator
+
+free-front : (sep : ℕ) (t : List ℕ) (i : ℕ) → ((k : ℕ) → k < i → get_or t k 0 ≡ sep → ⊥) → i ≤ length t → free sep (take i t) ≡ true
+free-front sep t zero h l = refl
+free-front sep [] (suc i) h l = absurd (omega arith)
+free-front sep (b ∷ bs) (suc i) h l =
+    let n : b ≡ sep → ⊥ = h 0 (omega arith) in
+    rw (ne_eqb b sep n) (free-front sep bs i (λ k m. h (suc k) (omega arith)) (omega arith))
+
+module _ (sep : ℕ) (t : List ℕ) where
+  pub no-separator : AllWithin (λ b. b ≡ sep → ⊥) t 0 (length t) → parts sep t ≡ t ∷ []
+  no-separator h =
+      let f : free sep (take (length t) t) ≡ true = free-front sep t (length t) (λ k l. h k 0 (omega arith) l) (omega arith) in
+      part-last sep t (rw (take-length t) at f)
+
+  -- the text behind a place, as a slice of it reads
+  behind : (i : ℕ) → drop (suc i) t ≡ take (length t - (i + 1)) (drop (i + 1) t)
+  behind i = rw add-one (sym (take_all (length t - suc i) (drop (suc i) t) (let l = length-drop (suc i) t in omega arith)))
+
+  pub first-separator : (i : ℕ) → i < length t → get_or t i 0 ≡ sep → AllWithin (λ b. b ≡ sep → ⊥) t 0 i
+      → parts sep t ≡ take i t ∷ parts sep (take (length t - (i + 1)) (drop (i + 1) t))
+  first-separator i l e h =
+      let whole : take i t ++ (sep ∷ drop (suc i) t) ≡ t =
+      ap (λ (b : ℕ). take i t ++ (b ∷ drop (suc i) t)) (sym e) ∙ ap (λ (s : List ℕ). take i t ++ s) (sym (drop-cons t i 0 l)) ∙ take-append-drop i t in
+      ap (parts sep) (sym whole) ∙ part_then sep (take i t) (drop (suc i) t) (free-front sep t i (λ k m. h k 0 (omega arith) m) (omega arith))
+      ∙ ap (λ (s : List ℕ). take i t ∷ parts sep s) (behind i)

@@ -1,12 +1,12 @@
 -- Bytes written one part after another.
-use Prim.Native.Nat.{ℕ, ◌+◌, ◌≤◌, ◌<◌}
+use Prim.Native.Nat.{ℕ, ◌+◌, ◌-◌, ◌≤◌}
 use mathlib.Core.Path.{◌≡◌, refl, sym, ap, ◌∙◌}
-use mathlib.Core.List.{List, [], ◌∷◌, ◌++◌, append_assoc}
+use mathlib.Core.List.{List, [], ◌++◌, append_assoc}
 use native.Mathlib.Nat.{add_assoc}
-use native.Mathlib.Numerals.{add-one}
 use native.Mathlib.Omega.{arith}
-use lib.ListN.{length, take, drop, set, length-append, length-take, length-drop, length-set, take-append-drop}
-use lib.Seq.{set_split, take_at, drop_at, drop-drop}
+use borrow.Rule.Slice.PartMut.{put_mid}
+use lib.ListN.{length, take, drop, length-append, length-take, length-drop, take-append-drop}
+use lib.Seq.{take_at, drop_at, drop-drop}
 use Rattle.numbers.specs.Written.{placed, Written}
 
 opened : (out : List ℕ) (at : ℕ) (xs : List ℕ) → placed out at xs ≡ take at out ++ (xs ++ drop (at + length xs) out)
@@ -41,10 +41,12 @@ module _ (out : List ℕ) (at : ℕ) (xs : List ℕ) (room : at + length xs ≤ 
       ∙ rw (take-placed, far) (append_assoc (take at out) xs (ys ++ D) ∙ ap (λ (l : List ℕ). take at out ++ l) (sym (append_assoc xs ys D)))
       ∙ sym (opened out at (xs ++ ys))
 
--- one byte
-pub written_byte : (out : List ℕ) (at b : ℕ) → at < length out → Written out at (b ∷ []) (set out at b) (at + 1)
+-- as many bytes as the slice from there on has
+pub written_slice : (out : List ℕ) (at : ℕ) (bs : List ℕ) → Written out at bs (put_mid at (at + length bs - at) out bs) (at + length bs)
 unfolding placed
-written_byte out at b h = record { bytes = set_split out at b h ∙ rw add-one; ends = refl }
+written_slice out at bs =
+    let e : at + length bs - at ≡ length bs = omega arith in
+    record { bytes = rw (e, drop-drop (length bs) at out) refl; ends = refl }
 
 -- a part, and then a part from its end on
 pub written_on : {out : List ℕ} {at : ℕ} {xs ys mid after : List ℕ} {next end : ℕ} → at + length xs ≤ length out
@@ -80,17 +82,3 @@ written_none out at =
 pub written-fits : {out bs after : List ℕ} {end : ℕ} → Written out 0 bs after end → end ≤ length after
 unfolding placed
 written-fits {out} {bs} w = let l = ap length w.bytes ∙ length-append bs (drop (0 + length bs) out) in omega (arith, w.ends)
-
--- a byte b, and from the next place on the rest of the bytes
-module _ (out : List ℕ) (at b : ℕ) (xs bs : List ℕ) (e : bs ≡ b ∷ xs) (room : at + length bs ≤ length out) where
-  whole : length bs ≡ length xs + 1
-  whole = ap length e ∙ sym (add-one (length xs))
-
-  pub first-room : at < length out
-  first-room = let l = whole in omega arith
-
-  pub rest-room : at + 1 + length xs ≤ length (set out at b)
-  rest-room = let l = whole in simp length-set (omega arith)
-
-  pub written-rest : {after : List ℕ} {end : ℕ} → Written (set out at b) (at + 1) xs after end → Written out at bs after end
-  written-rest w = rw e (written_on {xs = b ∷ []} (omega (arith, first-room)) (written_byte out at b first-room) w)

@@ -1,54 +1,41 @@
 // Text as bytes: its parts, its start, texts compared, decimal numbers of any length, read and rendered, and refusals.
 #![tactic(auto)]
 
-ghost use Rattle.std.specs.Prelude.{◌≡◌, true, ◌+◌, ◌*◌, ◌≤◌, length, drop};
+ghost use Rattle.std.specs.Prelude.{◌≡◌, ◌+◌, ◌*◌, ◌≤◌, ◌<◌, ◌∷◌, ◌++◌, [], true, length, take, IfOk, IfSome, MatchOption};
+ghost use Rattle.std.proofs.Math.Option.{none, some};
+ghost use Rattle.refusal.specs.Numbers.{number};
 ghost use Rattle.numbers.specs.Numbers as numbers;
 ghost use Rattle.numbers.specs.Numbers.{is_digit, starts_well, decimal, decimal_key, key_of, refusal_text};
-ghost use Rattle.numbers.specs.Parts.{before, same};
+ghost use Rattle.numbers.specs.Parts.{before, parts, same};
+ghost use Rattle.numbers.specs.Lines.{begun_with};
 ghost use Rattle.numbers.specs.Written.{Written};
-ghost use Rattle.numbers.specs.Answers.{natural_of, whole_of, UpTo, positive_in, negative_in, with_digit, BeginsAs};
+ghost use Rattle.numbers.specs.Answers.{natural_of, whole_of, with_digit};
 
-// What a text reads as, as a natural number of any length. A large one is above what the caller asked for.
-#[derive(Clone, Copy)]
-pub enum Natural {
-    Value(u32),
+use refusal::Refusal;
+
+// Why a text is no number that its reader holds: a large one is above the most that it takes.
+#[derive(Clone, Copy, Debug, PartialEq, Eq)]
+pub enum NumberError {
     Large,
     Unreadable,
-}
-
-// What a text reads as, as a whole number of any length. 32 bits don't hold a large one.
-#[derive(Clone, Copy)]
-pub enum Whole {
-    Value(i32),
-    Large,
-    Unreadable,
-}
-
-// Where the lines after the names line begin.
-#[derive(Clone, Copy)]
-pub enum Beginning {
-    At(usize),
-    Bad,
 }
 
 // T1
 pub fn is_digit(b: u8) -> bool
     ensures { result ≡ is_digit b }
 {
-    (48 <= b) & (b <= 57)
+    b.is_ascii_digit()
 }
 
 // T2
 fn starts_well(text: &[u8]) -> bool
     ensures { result ≡ starts_well text.now }
 {
-    if text.len() == 0 {
-        return false;
+    match text {
+        [] => false,
+        [_] => true,
+        [first, ..] => *first != b'0',
     }
-    if text.len() == 1 {
-        return true;
-    }
-    text[0] != 48
 }
 
 // T2: one more digit; a value past the most stays as it is, so that no length makes it wrap.
@@ -57,169 +44,154 @@ fn with_digit(value: u64, most: u32, b: u8) -> u64
     ensures { result ≡ with_digit most value b }
 {
     if value <= most as u64 {
-        return 10 * value + (b - 48) as u64;
+        return 10 * value + (b - b'0') as u64;
     }
     value
 }
 
 // T2: left at the first byte that is no digit.
-pub fn read_natural(text: &[u8], most: u32) -> Natural
-    ensures { result ≡ natural_of most (numbers.natural text.now) }
+pub fn read_natural(text: &[u8], most: u32) -> Result<u32, NumberError>
+    ensures value { result ≡ natural_of most (numbers.natural text.now) }
+    ensures bound { IfOk result (λ v. v ≤ most) }
 {
     if !starts_well(text) {
-        return Natural::Unreadable;
+        return Err(NumberError::Unreadable);
     }
     let mut value: u64 = 0;
-    let mut i = 0;
-    while i < text.len() {
-        let b = text[i];
-        if !is_digit(b) {
-            return Natural::Unreadable;
+    for b in text {
+        if !is_digit(*b) {
+            return Err(NumberError::Unreadable);
         }
-        value = with_digit(value, most, b);
-        i += 1;
+        value = with_digit(value, most, *b);
     }
     if (most as u64) < value {
-        return Natural::Large;
+        return Err(NumberError::Large);
     }
-    Natural::Value(value as u32)
-}
-
-// T4: without a minus.
-fn positive(n: Natural) -> Whole
-    requires { UpTo 2147483647 n }
-    ensures { result ≡ positive_in n }
-{
-    match n {
-        Natural::Value(v) => Whole::Value(v as i32),
-        Natural::Large => Whole::Large,
-        Natural::Unreadable => Whole::Unreadable,
-    }
-}
-
-// T4: after a minus.
-fn negative(n: Natural) -> Whole
-    requires { UpTo 2147483648 n }
-    ensures { result ≡ negative_in n }
-{
-    match n {
-        Natural::Value(v) => {
-            if v == 0 {
-                return Whole::Unreadable;
-            }
-            let size = v as i64;
-            Whole::Value((-size) as i32)
-        }
-        Natural::Large => Whole::Large,
-        Natural::Unreadable => Whole::Unreadable,
-    }
+    Ok(value as u32)
 }
 
 // T4
-pub fn read_whole(text: &[u8]) -> Whole
+fn has_minus(text: &[u8]) -> bool
+    ensures { result ≡ same (take 1 text.now) (45 ∷ []) }
+{
+    matches!(text, [b'-', ..])
+}
+
+// T4: a minus stands before no zero.
+pub fn read_whole(text: &[u8]) -> Result<i32, NumberError>
     ensures { result ≡ whole_of (numbers.whole text.now) }
 {
-    if text.len() == 0 {
-        return Whole::Unreadable;
+    if !has_minus(text) {
+        return Ok(read_natural(text, 2147483647)? as i32);
     }
-    if text[0] == 45 {
-        return negative(read_natural(&text[1..], 2147483648));
+    match read_natural(&text[1..], 2147483648)? {
+        0 => Err(NumberError::Unreadable),
+        v => Ok((-(v as i64)) as i32),
     }
-    positive(read_natural(text, 2147483647))
 }
 
-// T7: where the part that begins there ends.
-pub fn part_end(text: &[u8], at: usize, sep: u8) -> usize
-    ensures { result ≡ at + length (before sep (drop at text.now)) }
+// T7: the bytes before the first separator, and those after it.
+pub fn split_once(text: &[u8], sep: u8) -> Option<(&[u8], &[u8])>
+    ensures parts { MatchOption result (parts sep text.now ≡ text.now ∷ []) (λ x. parts sep text.now ≡ x.0.now ∷ parts sep x.1.now) }
+    ensures before { MatchOption result (before sep text.now ≡ text.now) (λ x. before sep text.now ≡ x.0.now) }
+    ensures whole { IfSome result (λ x. text.now ≡ x.0.now ++ (sep ∷ x.1.now)) }
+    ensures lengths { IfSome result (λ x. length x.0.now + 1 + length x.1.now ≡ length text.now) }
 {
-    let mut i = at;
-    while i < text.len() {
-        if text[i] == sep {
-            return i;
+    // a `for`, and no iterator's method: the boards' build takes no `Option` of a reference (board/module.py)
+    for (i, b) in text.iter().enumerate() {
+        if *b == sep {
+            return Some((&text[..i], &text[i + 1..]));
         }
-        i += 1;
     }
-    i
+    None
 }
 
+// By a `for`, since `==` goes by an iterator.
 pub fn same(a: &[u8], b: &[u8]) -> bool
     ensures { result ≡ same a.now b.now }
 {
     if a.len() != b.len() {
         return false;
     }
-    let mut i = 0;
-    while i < a.len() {
-        if a[i] != b[i] {
+    for (i, x) in a.iter().enumerate() {
+        if *x != b[i] {
             return false;
         }
-        i += 1;
     }
     true
 }
 
-// D1, O6, R10: a text of at most `most` bytes, whose first line is the names line.
-pub fn lines_start(text: &[u8], most: usize, names: &[u8]) -> Beginning
-    ensures { BeginsAs most names.now text.now result }
+// D1, O6, R10: what follows the names line, in a text of at most `most` bytes that begins with it.
+pub fn lines_start<'a>(text: &'a [u8], most: usize, names: &[u8]) -> Option<&'a [u8]>
+    ensures lines { MatchOption result (begun_with most names.now text.now ≡ none)
+        (λ rest. begun_with most names.now text.now ≡ some (parts 10 rest.now)) }
+    ensures begins { IfSome result (λ rest. text.now ≡ names.now ++ (10 ∷ rest.now)) }
+    ensures short { IfSome result (λ rest. (length text.now ≤ most) × (length rest.now < length text.now)) }
 {
     if most < text.len() {
-        return Beginning::Bad;
+        return None;
     }
-    let end = part_end(text, 0, 10);
-    if end == text.len() {
-        return Beginning::Bad;
-    }
-    if !same(&text[..end], names) {
-        return Beginning::Bad;
-    }
-    Beginning::At(end + 1)
+    let (first, rest) = split_once(text, b'\n')?;
+    if same(first, names) { Some(rest) } else { None }
 }
 
-// The bytes, written there.
-pub fn place(bytes: &[u8], out: &mut [u8], at: usize) -> usize
-    requires { at + length bytes.now ≤ length out.old }
-    ensures { Written out.old at bytes.now out.new result }
-{
-    let mut i = 0;
-    while i < bytes.len() {
-        out[at + i] = bytes[i];
-        i += 1;
-    }
-    at + i
+// Lent bytes, and how far they are written.
+#[derive(Drop)]
+pub struct Out<'a> {
+    pub bytes: &'a mut [u8],
+    pub at: usize,
 }
 
-// T5: the digits of a tenth, and then the last digit.
-pub fn render_decimal(v: u64, out: &mut [u8], at: usize) -> usize
-    requires { at + length (decimal v) ≤ length out.old }
-    ensures { Written out.old at (decimal v) out.new result }
-{
-    if v < 10 {
-        out[at] = (48 + v) as u8;
-        return at + 1;
+impl Out<'_> {
+    // The bytes, written there.
+    pub fn place(&mut self, bytes: &[u8])
+        requires { self.old.at + length bytes.now ≤ length self.old.bytes.now }
+        ensures written { Written self.old.bytes.now self.old.at bytes.now self.new.bytes.now self.new.at }
+        ensures len { length self.new.bytes.now ≡ length self.old.bytes.now }
+        ensures same_reference { self.new.bytes.ghost_name ≡ self.old.bytes.ghost_name }
+    {
+        let end = self.at + bytes.len();
+        self.bytes[self.at..end].copy_from_slice(bytes);
+        self.at = end;
     }
-    let end = render_decimal(v / 10, out, at);
-    out[end] = (48 + v % 10) as u8;
-    end + 1
-}
 
-// T5: a stored key, as the key that it stands for.
-pub fn render_key(s: u64, out: &mut [u8], at: usize) -> usize
-    requires { at + length (decimal_key (key_of s)) ≤ length out.old }
-    ensures { Written out.old at (decimal_key (key_of s)) out.new result }
-{
-    if 31 <= s {
-        return render_decimal(s - 31, out, at);
+    // T5: the digits of a tenth, and then the last digit.
+    pub fn decimal(&mut self, v: u64)
+        requires { self.old.at + length (decimal v) ≤ length self.old.bytes.now }
+        ensures written { Written self.old.bytes.now self.old.at (decimal v) self.new.bytes.now self.new.at }
+        ensures len { length self.new.bytes.now ≡ length self.old.bytes.now }
+        ensures same_reference { self.new.bytes.ghost_name ≡ self.old.bytes.ghost_name }
+    {
+        if 10 <= v {
+            self.decimal(v / 10);
+        }
+        self.place(&[b'0' + (v % 10) as u8]);
     }
-    out[at] = 45;
-    render_decimal(31 - s, out, at + 1)
-}
 
-// D7, O8
-pub fn render_refusal(n: u32, out: &mut [u8]) -> usize
-    requires { length (refusal_text n) ≤ length out.old }
-    ensures { Written out.old 0 (refusal_text n) out.new result }
-{
-    let a = place(b"no", out, 0);
-    let b = render_decimal(n as u64, out, a);
-    place(b"\n", out, b)
+    // T5: a stored key, as the key that it stands for.
+    pub fn key(&mut self, s: u64)
+        requires { self.old.at + length (decimal_key (key_of s)) ≤ length self.old.bytes.now }
+        ensures written { Written self.old.bytes.now self.old.at (decimal_key (key_of s)) self.new.bytes.now self.new.at }
+        ensures len { length self.new.bytes.now ≡ length self.old.bytes.now }
+        ensures same_reference { self.new.bytes.ghost_name ≡ self.old.bytes.ghost_name }
+    {
+        if 31 <= s {
+            self.decimal(s - 31);
+        } else {
+            self.place(b"-");
+            self.decimal(31 - s);
+        }
+    }
+
+    // D7, O8
+    pub fn refusal(&mut self, r: Refusal)
+        requires { self.old.at + length (refusal_text (number r)) ≤ length self.old.bytes.now }
+        ensures written { Written self.old.bytes.now self.old.at (refusal_text (number r)) self.new.bytes.now self.new.at }
+        ensures len { length self.new.bytes.now ≡ length self.old.bytes.now }
+        ensures same_reference { self.new.bytes.ghost_name ≡ self.old.bytes.ghost_name }
+    {
+        self.place(b"no");
+        self.decimal(r.number() as u64);
+        self.place(b"\n");
+    }
 }

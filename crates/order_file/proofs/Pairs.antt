@@ -1,59 +1,66 @@
--- A line by its items, and what the code's tests of a line come to.
-use Prim.Native.Nat.{ℕ, ◌+◌, ◌-◌, ◌*◌, ◌≤◌}
+-- A line by its items: two numbers, with no blank in the second.
+use Prim.Native.Nat.{ℕ, ◌+◌, ◌*◌, ◌≤◌}
 use mathlib.Core.Path.{◌≡◌, refl, sym, ap, ◌∙◌}
 use mathlib.Core.Logic.{◌⊎◌, inl, inr}
-use mathlib.Core.Bool.{true, false, ◌||◌}
-use mathlib.Core.List.{List, ◌∷◌}
+use mathlib.Core.Bool.{true, false, ◌&&◌, cond}
+use mathlib.Core.List.{List, [], ◌∷◌}
 use mathlib.Core.Option.{Option, none, some}
 use native.Mathlib.Omega.{arith}
-use borrow.Author.Tests.{leb-true, le-ltb, ltb-false}
-use lib.Dec.{leb, ltb}
-use lib.ListN.{length, take, drop}
-use Rattle.rules.proofs.ListLaws.{bool, clash, or_left, or_right}
-use Rattle.numbers.specs.Numbers.{natural}
+use borrow.Author.Tests.{leb-true, ne_eqb}
+use lib.Dec.{eqb, leb}
+use Rattle.std.specs.Prelude.{Some, None}
+use Rattle.rules.specs.Lists.{all}
+use Rattle.rules.proofs.ListLaws.{bool, clash, and_left, and_right}
+use Rattle.numbers.specs.Numbers.{is_digit, starts_well, natural}
 use Rattle.numbers.specs.Parts.{before, beyond, parts}
-use Rattle.numbers.specs.Answers.{natural_of}
-use Rattle.numbers.proofs.Parts.{end-high, part-is, last-part, further-parts}
+use Rattle.numbers.proofs.NumbersBack.{free, part-last}
 use Rattle.order_file.specs.File.{both, pair_by, read_pair}
-use Rattle.order_file.specs.Answers.{capped, party_in, line_is}
-use Rattle.order_file.specs.declared.Line.TheVariants as line
+use Rattle.order_file.specs.Answers.{capped, party_of, word_in}
 
--- ---- the items: the first ends at a, the second at b
+-- ---- the items
 
-module _ (t : List ℕ) (a : ℕ) (ea : a ≡ 0 + length (before 32 (drop 0 t))) where
-  low : 0 ≤ length t
-  low = omega arith
+digits-free : (bs : List ℕ) → all is_digit bs ≡ true → free 32 bs ≡ true
+digits-free [] e = refl
+digits-free (b ∷ bs) e =
+    let d : is_digit b ≡ true = and_left (is_digit b) (all is_digit bs) e in
+    let n : b ≡ 32 → ⊥ = λ q. clash (is_digit b) d (ap is_digit q) in
+    rw (ne_eqb b 32 n) (digits-free bs (and_right (is_digit b) (all is_digit bs) e))
 
-  pub first-end : a ≤ length t
-  first-end = end-high 32 t 0 a low ea
+natural-free : (bs : List ℕ) (v : ℕ) → natural bs ≡ some v → free 32 bs ≡ true
+unfolding natural
+natural-free bs v e = go (bool (starts_well bs && all is_digit bs)) e
+  where
+    go : ((starts_well bs && all is_digit bs) ≡ true) ⊎ ((starts_well bs && all is_digit bs) ≡ false) → natural bs ≡ some v → free 32 bs ≡ true
+    go (inl t) h = digits-free bs (and_right (starts_well bs) (all is_digit bs) t)
+    go (inr f) h = let k : none ≡ some v = rw f at h in absurd cc
 
-  pub one-item : a ≡ length t → read_pair t ≡ none
-  unfolding read_pair
-  one-item h = ap (λ (ps : List (List ℕ)). pair_by (before 32 t ∷ ps)) (last-part 32 t 0 a low ea h)
+before-all : (bs : List ℕ) → beyond 32 bs ≡ [] → before 32 bs ≡ bs
+before-all [] e = refl
+before-all (b ∷ bs) e =
+    elim (eqb b 32) as (λ t. cond t (before 32 bs ∷ beyond 32 bs) (beyond 32 bs) ≡ [] → cond t [] (b ∷ before 32 bs) ≡ b ∷ bs)
+    [ true ↦ λ k. absurd cc | false ↦ λ k. ap (λ (l : List ℕ). b ∷ l) (before-all bs k) ] e
 
-  module _ (na : a ≡ length t → ⊥) (b : ℕ) (eb : b ≡ a + 1 + length (before 32 (drop (a + 1) t))) where
-    next : a + 1 ≤ length t
-    next = omega (arith, first-end, na)
+both-none : (o : Option ℕ) → both o none ≡ none
+both-none none = refl
+both-none (some a) = refl
 
-    two : parts 32 t ≡ before 32 t ∷ before 32 (drop (a + 1) t) ∷ beyond 32 (drop (a + 1) t)
-    two = ap (λ (ps : List (List ℕ)). before 32 t ∷ ps) (further-parts 32 t 0 a low ea na)
+-- no blank in the line
+pub one-item : (line : List ℕ) → parts 32 line ≡ line ∷ [] → read_pair line ≡ none
+unfolding read_pair
+one-item line e = rw e refl
 
-    pub more-items : (b ≡ length t → ⊥) → read_pair t ≡ none
-    unfolding read_pair
-    more-items h =
-        ap pair_by two
-        ∙ ap (λ (ps : List (List ℕ)). pair_by (before 32 t ∷ before 32 (drop (a + 1) t) ∷ ps)) (further-parts 32 t (a + 1) b next eb h)
+-- what stands after the first blank is the second number, or none
+pub two_items : (line first second : List ℕ) → parts 32 line ≡ first ∷ parts 32 second → read_pair line ≡ both (natural first) (natural second)
+unfolding read_pair
+two_items line first second e = ap pair_by e ∙ by_second (natural second) refl
+  where
+    alone : (bs : List (List ℕ)) → beyond 32 second ≡ bs → natural second ≡ none → pair_by (first ∷ before 32 second ∷ bs) ≡ none
+    alone [] h n = rw (before-all second h, n) (both-none (natural first))
+    alone (c ∷ more) h n = refl
 
-    pub two_items : b ≡ length t → read_pair t ≡ both (natural (take a t)) (natural (take (length t - (a + 1)) (drop (a + 1) t)))
-    unfolding read_pair
-    two_items h =
-        let z : a - 0 ≡ a = omega arith in
-        let p : take a t ≡ before 32 t = ap (λ (n : ℕ). take n t) (sym z) ∙ part-is 32 t 0 a low ea in
-        let q : take (length t - (a + 1)) (drop (a + 1) t) ≡ before 32 (drop (a + 1) t) =
-        ap (λ (n : ℕ). take (n - (a + 1)) (drop (a + 1) t)) (sym h) ∙ part-is 32 t (a + 1) b next eb in
-        rw (p, q)
-        (ap pair_by two
-        ∙ ap (λ (ps : List (List ℕ)). pair_by (before 32 t ∷ before 32 (drop (a + 1) t) ∷ ps)) (last-part 32 t (a + 1) b next eb h))
+    by_second : (o : Option ℕ) → natural second ≡ o → pair_by (first ∷ parts 32 second) ≡ both (natural first) (natural second)
+    by_second none n = alone (beyond 32 second) refl n ∙ rw n (sym (both-none (natural first)))
+    by_second (some v) n = ap (λ (ps : List (List ℕ)). pair_by (first ∷ ps)) (part-last 32 second (natural-free second v n))
 
 -- ---- the parties
 
@@ -64,41 +71,27 @@ capped_le v = go (bool (leb v 7))
     go (inl e) = let l = leb-true v 7 e in rw e (omega arith)
     go (inr e) = rw e (omega arith)
 
-party-some : (v : ℕ) → party_in (natural_of 7 (some v)) ≡ capped v
-unfolding natural_of
-party-some v = go (bool (leb v 7))
-  where
-    go : (leb v 7 ≡ true) ⊎ (leb v 7 ≡ false) → party_in (natural_of 7 (some v)) ≡ capped v
-    go (inl e) = rw e
-    go (inr e) = rw e
-
-party-none : party_in (natural_of 7 none) ≡ 9
-unfolding natural_of
-party-none = refl
-
--- the test of both parties: 9 is above 8, and nothing else is
-pub both_small : (m n : ℕ) → (ltb 8 m || ltb 8 n) ≡ false → (m ≤ 8) × (n ≤ 8)
-both_small m n e = (ltb-false 8 m (or_left (ltb 8 m) (ltb 8 n) e), ltb-false 8 n (or_right (ltb 8 m) (ltb 8 n) e))
-
-module _ (o p : Option ℕ) (m n : ℕ) (em : m ≡ party_in (natural_of 7 o)) (en : n ≡ party_in (natural_of 7 p)) where
-  pub unread : (ltb 8 m || ltb 8 n) ≡ true → both o p ≡ none
-  unread h = go o p em en
+-- what is read of the items
+module _ (o q : Option ℕ) where
+  pub first_unread : party_of o ≡ None → None ≡ word_in (both o q)
+  first_unread h = go o h
     where
-      go : (o p : Option ℕ) → m ≡ party_in (natural_of 7 o) → n ≡ party_in (natural_of 7 p) → both o p ≡ none
-      go none p x y = refl
-      go (some a) none x y = refl
-      go (some a) (some b) x y =
-          let k : ltb 8 m ≡ false = rw (x ∙ party-some a) (le-ltb 8 (capped a) (capped_le a)) in
-          let l : ltb 8 n ≡ false = rw (y ∙ party-some b) (le-ltb 8 (capped b) (capped_le b)) in
-          clash (ltb 8 m || ltb 8 n) h (rw (k, l))
+      go : (o : Option ℕ) → party_of o ≡ None → None ≡ word_in (both o q)
+      go none h = refl
+      go (some a) h = absurd cc
 
-  pub pair_read : (ltb 8 m || ltb 8 n) ≡ false → line.Pair (m * 4294967296 + n) ≡ line_is (both o p)
-  pair_read h = go o p em en
+  pub second-unread : party_of q ≡ None → None ≡ word_in (both o q)
+  second-unread h = go o q h
     where
-      small : (m ≤ 8) × (n ≤ 8)
-      small = both_small m n h
+      go : (o q : Option ℕ) → party_of q ≡ None → None ≡ word_in (both o q)
+      go none q h = refl
+      go (some a) none h = refl
+      go (some a) (some b) h = absurd cc
 
-      go : (o p : Option ℕ) → m ≡ party_in (natural_of 7 o) → n ≡ party_in (natural_of 7 p) → line.Pair (m * 4294967296 + n) ≡ line_is (both o p)
-      go none p x y = let q : m ≡ 9 = x ∙ party-none in absurd (omega (arith, small.0))
-      go (some a) none x y = let q : n ≡ 9 = y ∙ party-none in absurd (omega (arith, small.1))
-      go (some a) (some b) x y = let q : m ≡ capped a = x ∙ party-some a in let r : n ≡ capped b = y ∙ party-some b in rw (q, r)
+  pub pair_read : (a b : ℕ) → party_of o ≡ Some a → party_of q ≡ Some b → Some (a * 4294967296 + b) ≡ word_in (both o q)
+  pair_read a b h k = go o q h k
+    where
+      go : (o q : Option ℕ) → party_of o ≡ Some a → party_of q ≡ Some b → Some (a * 4294967296 + b) ≡ word_in (both o q)
+      go none q h k = absurd cc
+      go (some x) none h k = absurd cc
+      go (some x) (some y) h k = let e : capped x ≡ a = cc in let f : capped y ≡ b = cc in rw (← e, ← f) refl

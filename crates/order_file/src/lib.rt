@@ -1,98 +1,65 @@
 // Pairs from a file: the pairs of its lines, and what they come to.
 #![tactic(auto)]
 
-ghost use Rattle.std.specs.Prelude.{◌≡◌, [], ◌≤◌, length, drop};
+ghost use Rattle.std.specs.Prelude.{◌≡◌, [], ◌≤◌, IfSome, option_map};
+ghost use Rattle.numbers.specs.Numbers.{natural};
 ghost use Rattle.numbers.specs.Parts.{parts};
 ghost use Rattle.start_order.specs.Answers.{Settled};
 ghost use Rattle.order_file.specs.File.{read_pair, read_pairs, read_file};
-ghost use Rattle.order_file.specs.Answers.{party_in, line_is, ReadAs};
+ghost use Rattle.order_file.specs.Answers.{party_of, word_in, words_in};
 
-use numbers::{Beginning, Natural};
+use numbers::NumberError;
+use refusal::Refusal;
 use start_order::Start;
 
-// The pair of a line, as its word.
-#[derive(Clone, Copy)]
-enum Line {
-    Pair(u64),
-    Unreadable,
-}
-
-// How many words of pairs were kept.
-#[derive(Clone, Copy)]
-enum Reading {
-    Pairs(usize),
-    Unreadable,
-}
-
-// T2, R16: 8 stands for every party above 7, and 9 for none.
-fn party(n: Natural) -> u64
-    ensures { result ≡ party_in n }
+// T2, R16: the party of an item, if it can be read; 8 stands for every one above 7, since all of them are refused alike.
+#[tactic(auto, unfolding(numbers::specs::Answers::natural_of))]
+fn party(item: &[u8]) -> Option<u64>
+    ensures value { result ≡ party_of (natural item.now) }
+    ensures bound { IfSome result (λ p. p ≤ 8) }
 {
-    match n {
-        Natural::Value(v) => v as u64,
-        Natural::Large => 8,
-        Natural::Unreadable => 9,
+    match numbers::read_natural(item, 7) {
+        Ok(p) => Some(p as u64),
+        Err(NumberError::Large) => Some(8),
+        Err(NumberError::Unreadable) => None,
     }
 }
 
-// O6: two numbers with one blank between.
-fn read_pair(line: &[u8]) -> Line
-    ensures { result ≡ line_is (read_pair line.now) }
+// O6: the word of a line's pair: two numbers with one blank between.
+fn read_pair(line: &[u8]) -> Option<u64>
+    ensures { result ≡ word_in (read_pair line.now) }
 {
-    let a = numbers::part_end(line, 0, 32);
-    if a == line.len() {
-        return Line::Unreadable;
-    }
-    let b = numbers::part_end(line, a + 1, 32);
-    if b != line.len() {
-        return Line::Unreadable;
-    }
-    let first = party(numbers::read_natural(&line[..a], 7));
-    let second = party(numbers::read_natural(&line[a + 1..], 7));
-    if (8 < first) | (8 < second) {
-        return Line::Unreadable;
-    }
-    Line::Pair(first * 4294967296 + second)
+    let (first, second) = numbers::split_once(line, b' ')?;
+    Some(party(first)? * 4294967296 + party(second)?)
 }
 
-// O6, R11: the pairs of the lines from there on. Of more than 64 only 65 are kept.
-fn read_pairs(file: &[u8], from: usize, words: &mut [u64]) -> Reading
-    requires { (from ≤ length file.now) × (length words.old ≡ 65) }
-    ensures { ReadAs (read_pairs [] (parts 10 (drop from file.now))) result words.new }
+// O6, R11: the words of the pairs of all lines. Of more than 64 only 65 are kept, in an array that is lent, since there is no heap.
+fn read_pairs<'a>(lines: &[u8], words: &'a mut [u64; 65]) -> Option<&'a [u64]>
+    ensures { option_map (λ w. w.now) result ≡ words_in (read_pairs [] (parts 10 lines.now)) }
 {
-    let mut at = from;
+    let mut rest = lines;
     let mut n = 0;
-    while at < file.len() {
-        let end = numbers::part_end(file, at, 10);
-        if end == file.len() {
-            return Reading::Unreadable;
-        }
-        let line = read_pair(&file[at..end]);
-        let Line::Pair(w) = line else {
-            return Reading::Unreadable;
-        };
+    while let Some((line, next)) = numbers::split_once(rest, b'\n') {
+        let word = read_pair(line)?;
         if n < 65 {
-            words[n] = w;
+            words[n] = word;
             n += 1;
         }
-        at = end + 1;
+        rest = next;
     }
-    Reading::Pairs(n)
+    if rest.is_empty() {
+        Some(&words[..n])
+    } else {
+        None
+    }
 }
 
 // O6, O7: what the file comes to, with the order in the eight words.
-pub fn start_by(file: &[u8], places: &mut [u64]) -> Start
-    requires { length places.old ≡ 8 }
+pub fn start_by(file: &[u8], places: &mut [u64; 8]) -> Result<Start, Refusal>
     ensures { Settled (read_file file.now) result places.old places.new }
 {
-    let begun = numbers::lines_start(file, 4096, b"before after");
-    let Beginning::At(from) = begun else {
-        return Start::Refused(10);
-    };
+    let lines = numbers::lines_start(file, 4096, b"before after").ok_or(Refusal::BadFile)?;
     let mut words = [0u64; 65];
-    let read = read_pairs(file, from, &mut words);
-    let Reading::Pairs(n) = read else {
-        return Start::Refused(11);
-    };
-    start_order::start_order(&words[..n], places)
+    let pairs = read_pairs(lines, &mut words).ok_or(Refusal::UnreadableLine)?;
+    start_order::start_order(pairs, places)
 }

@@ -2,6 +2,8 @@
 // A line says the call and what is wrong with it; then its answer and whether a result word has changed, or what is printed of the file.
 #![tactic(auto)]
 
+use numbers::Out;
+
 // The pair "a before b" is the word a * BEFORE + b.
 const BEFORE: u64 = 4294967296;
 
@@ -59,13 +61,13 @@ fn not_refused() {
 fn order_in_12_words() {
     let mut result = [99u64; 12];
     let code = space_c::space_start_order(&[7 * BEFORE], &mut result);
-    refusal_lines::show_code(
+    refusal_lines::show(
         b"start order, 12 words lent, nothing wrong",
         code,
         &[99; 12],
         &result,
     );
-    refusal_lines::show_code(
+    refusal_lines::show(
         b"start order, 12 words lent, the last four",
         code,
         &[99; 4],
@@ -118,22 +120,22 @@ fn large_parties() {
 // The names line and empty lines, which can't be read: as long as a file may be, and longer.
 fn long_files() {
     let mut longest = [10u8; 4096];
-    numbers::place(b"before after\n", &mut longest, 0);
+    longest[..13].copy_from_slice(b"before after\n");
     file(b"file of pairs, 4096 bytes, empty lines", &longest);
     let mut longer = [10u8; 4097];
-    numbers::place(b"before after\n", &mut longer, 0);
+    longer[..13].copy_from_slice(b"before after\n");
     file(b"file of pairs, 4097 bytes, empty lines", &longer);
 }
 
 // The same with one line, whose second party is above 7.
 fn long_numbers() {
     let mut longest = [49u8; 4096];
-    numbers::place(b"before after\n0 ", &mut longest, 0);
+    longest[..15].copy_from_slice(b"before after\n0 ");
     longest[4095] = 10;
     let text = b"file of pairs, 4096 bytes, a party of 4080 digits";
     file(text, &longest);
     let mut longer = [49u8; 4097];
-    numbers::place(b"before after\n0 ", &mut longer, 0);
+    longer[..15].copy_from_slice(b"before after\n0 ");
     longer[4096] = 10;
     let text = b"file of pairs, 4097 bytes, a party of 4081 digits";
     file(text, &longer);
@@ -174,24 +176,27 @@ fn start(text: &[u8], pairs: &[u64]) {
 
 fn start_into(text: &[u8], pairs: &[u64], before: &[u64], res: &mut [u64]) {
     let code = space_c::space_start_order(pairs, res);
-    refusal_lines::show_code(text, code, before, res);
+    refusal_lines::show(text, code, before, res);
 }
 
 fn file(text: &[u8], bytes: &[u8]) {
     io::write_all(1, text);
     io::write_all(1, b": ");
-    let mut out = [0u8; 22];
-    let n = order_print::print_order(bytes, &mut out);
-    io::write_all(1, &out[..n]);
+    let mut lent = [0; 22];
+    let mut out = Out {
+        bytes: &mut lent,
+        at: 0,
+    };
+    order_print::print_order(bytes, &mut out);
+    let end = out.at;
+    io::write_all(1, &lent[..end]);
 }
 
 // The names line, and the line of four bytes as often as it fits.
 fn file_of(text: &[u8], line: &[u8; 4], bytes: &mut [u8]) {
     let names = b"before after\n";
-    let mut i = 0;
-    while i < bytes.len() {
-        bytes[i] = if i < 13 { names[i] } else { line[(i - 13) % 4] };
-        i += 1;
+    for (i, byte) in bytes.iter_mut().enumerate() {
+        *byte = if i < 13 { names[i] } else { line[(i - 13) % 4] };
     }
     file(text, bytes);
 }

@@ -1,15 +1,23 @@
 // What the programs with the refused calls share: a space to make calls on, its damaged copies, and the line printed of a call.
 #![tactic(auto)]
 
-ghost use Rattle.std.specs.Prelude.{◌≡◌, ◌&&◌, [], ◌∷◌, pos, set, take};
+ghost use Rattle.std.specs.Prelude.{◌≡◌, ◌&&◌, [], ◌∷◌, ◌<◌, pos, set, take};
 ghost use Rattle.rules.specs.Matching.{pair};
 ghost use Rattle.rules.specs.Calls.{put};
 ghost use Rattle.rules.specs.Words.{call};
+ghost use Rattle.words.specs.Pairs.{meant};
 ghost use Rattle.numbers.specs.Parts as parts;
 ghost use Rattle.refusal_lines.specs.Start.{roster, opened};
 
+use refusal::Refusal;
 use search::Op;
-use space::Answer;
+use words::Pair;
+
+// The pairs of what party 0 puts; party 1 finds it by the co-key.
+pub const OWN: Pair = Pair {
+    partitions: SET_5,
+    key: 4,
+};
 
 // Field words with value 0.
 pub const PARTITION: u64 = 4294967296;
@@ -44,7 +52,14 @@ const KEY_4: u64 = 34359738368;
 
 const KEY_MINUS_4: u64 = 134217728;
 
+pub fn pair(partitions: u64, key: i32) -> Pair
+    ensures { meant result ≡ pair partitions key }
+{
+    Pair { partitions, key }
+}
+
 // Party 0 holds partition 5 and key 4, and party 1 partitions 0 and 5 and key -4.
+#[tactic(auto, unfolding(crate::specs::Start::roster))]
 pub fn roster() -> [u64; 16]
     ensures { result ≡ roster }
 {
@@ -56,11 +71,12 @@ pub fn roster() -> [u64; 16]
     roster
 }
 
+#[tactic(auto, unfolding(rules::specs::Words::zeros, crate::specs::Start::opened))]
 pub fn opened() -> [u64; 1809]
     ensures { result ≡ opened }
 {
     let mut words = [0u64; 1809];
-    space::open(&mut words, &roster());
+    let _ = space::open(&mut words, &roster());
     words
 }
 
@@ -68,23 +84,31 @@ pub fn first_1808(words: [u64; 1809]) -> [u64; 1808]
     ensures { result ≡ take 1808 words }
 {
     let mut first = [0u64; 1808];
-    edits::copy_in(&words[..1808], &mut first);
+    first.copy_from_slice(&words[..1808]);
     first
+}
+
+// A copy with another word in one place.
+pub fn with_word(words: [u64; 1809], at: usize, word: u64) -> [u64; 1809]
+    requires { at < 1809 }
+    ensures { result ≡ set words at word }
+{
+    let mut damaged = words;
+    damaged[at] = word;
+    damaged
 }
 
 pub fn with_129_entries(words: [u64; 1809]) -> [u64; 1809]
     ensures { result ≡ set words 0 129 }
 {
-    let mut damaged = words;
-    damaged[0] = 129;
-    damaged
+    with_word(words, 0, 129)
 }
 
 pub fn with_an_entry(words: [u64; 1809]) -> [u64; 1809]
     ensures { result ≡ (call words (put 0 (pair 32 (pos 4)) (pair 32 (pos 4)) (7 ∷ 120 ∷ []))).space }
 {
     let mut more = words;
-    space::put(&mut more, 0, SET_5, 4, SET_5, 4, &[7, 120]);
+    let _ = space::put(&mut more, 0, OWN, OWN, &[7, 120]);
     more
 }
 
@@ -92,41 +116,61 @@ pub fn with_an_entry(words: [u64; 1809]) -> [u64; 1809]
 pub fn with_an_empty_read_set(words: [u64; 1809]) -> [u64; 1809]
     ensures { result ≡ set words 18 0 }
 {
-    let mut damaged = words;
-    damaged[18] = EMPTY;
-    damaged
+    with_word(words, 18, EMPTY)
 }
 
 // That of its take pair.
 pub fn with_an_empty_take_set(words: [u64; 1809]) -> [u64; 1809]
     ensures { result ≡ set words 20 0 }
 {
-    let mut damaged = words;
-    damaged[20] = EMPTY;
-    damaged
+    with_word(words, 20, EMPTY)
+}
+
+// What a call answers, which a line says.
+pub trait Answer {
+    fn say(self);
+}
+
+// An opening or a put.
+impl Answer for Result<(), Refusal> {
+    fn say(self) {
+        match self {
+            Ok(()) => say(b"done"),
+            Err(refusal) => say_refusal(refusal),
+        }
+    }
+}
+
+// A look, a receive or a take.
+impl Answer for Result<Option<usize>, Refusal> {
+    fn say(self) {
+        match self {
+            Ok(Some(n)) => {
+                say(b"found ");
+                io::print_decimal(1, n as u64);
+            }
+            Ok(None) => say(b"none"),
+            Err(refusal) => say_refusal(refusal),
+        }
+    }
+}
+
+// A call as a program in C makes it.
+impl Answer for u32 {
+    fn say(self) {
+        io::print_decimal(1, self as u64);
+    }
 }
 
 // Prints the line of a call: the text, its answer, and whether its words have changed, which it also answers.
-pub fn show(text: &[u8], answer: Answer, before: &[u64], after: &[u64]) -> bool
+pub fn show<A: Answer>(text: &[u8], answer: A, before: &[u64], after: &[u64]) -> bool
     ensures { result ≡ parts.same before.now after.now }
 {
     say(text);
     say(b": ");
-    show_answer(answer);
-    let unchanged = same(before, after);
-    show_change(unchanged);
-    unchanged
-}
-
-// The same of a call as a program in C makes it, with the number that it answers.
-pub fn show_code(text: &[u8], code: u32, before: &[u64], after: &[u64]) -> bool
-    ensures { result ≡ parts.same before.now after.now }
-{
-    say(text);
-    say(b": ");
-    io::print_decimal(1, code as u64);
-    let unchanged = same(before, after);
-    show_change(unchanged);
+    answer.say();
+    let unchanged = before == after;
+    say_change(unchanged);
     unchanged
 }
 
@@ -134,7 +178,7 @@ pub fn show_code(text: &[u8], code: u32, before: &[u64], after: &[u64]) -> bool
 pub fn show_seek(
     op: Op,
     text: &[u8],
-    answer: Answer,
+    answer: Result<Option<usize>, Refusal>,
     before: &[u64],
     after: &[u64],
     lent: &[u64],
@@ -145,46 +189,26 @@ pub fn show_seek(
     say_op(op);
     say(text);
     say(b": ");
-    show_answer(answer);
-    let unchanged = both_same(before, after, lent, res);
-    show_change(unchanged);
+    answer.say();
+    let unchanged = (before == after) & (lent == res);
+    say_change(unchanged);
     unchanged
 }
 
 fn say_op(op: Op) {
     match op {
-        Op::Looking => {
-            say(b"look, ");
-        }
-        Op::Receiving => {
-            say(b"receive, ");
-        }
-        Op::Taking => {
-            say(b"take, ");
-        }
+        Op::Looking => say(b"look, "),
+        Op::Receiving => say(b"receive, "),
+        Op::Taking => say(b"take, "),
     }
 }
 
-fn show_answer(answer: Answer) {
-    match answer {
-        Answer::Done => {
-            say(b"done");
-        }
-        Answer::Found(n) => {
-            say(b"found ");
-            io::print_decimal(1, n as u64);
-        }
-        Answer::None => {
-            say(b"none");
-        }
-        Answer::Refused(number) => {
-            say(b"no");
-            io::print_decimal(1, number as u64);
-        }
-    }
+fn say_refusal(refusal: Refusal) {
+    say(b"no");
+    io::print_decimal(1, refusal.number() as u64);
 }
 
-fn show_change(unchanged: bool) {
+fn say_change(unchanged: bool) {
     if unchanged {
         say(b", unchanged\n");
     } else {
@@ -192,28 +216,7 @@ fn show_change(unchanged: bool) {
     }
 }
 
+// No `println!`, whose failure a caller would have to be told: to show a line can't fail.
 fn say(text: &[u8]) {
     io::write_all(1, text);
-}
-
-fn both_same(before: &[u64], after: &[u64], lent: &[u64], res: &[u64]) -> bool
-    ensures { result ≡ (parts.same before.now after.now && parts.same lent.now res.now) }
-{
-    same(before, after) & same(lent, res)
-}
-
-fn same(a: &[u64], b: &[u64]) -> bool
-    ensures { result ≡ parts.same a.now b.now }
-{
-    if a.len() != b.len() {
-        return false;
-    }
-    let mut i = 0;
-    while i < a.len() {
-        if a[i] != b[i] {
-            return false;
-        }
-        i += 1;
-    }
-    true
 }

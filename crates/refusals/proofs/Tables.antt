@@ -1,14 +1,16 @@
 -- Tables that begin with tests of which it is known what they say; verdicts and admissions, back to where they come from.
 use Prim.Native.Nat.{ℕ, ◌≤◌, ◌<◌}
-use mathlib.Core.Path.{◌≡◌, refl, ap}
+use mathlib.Core.Path.{◌≡◌, refl, sym, ap}
 use mathlib.Core.Logic.{◌⊎◌, inl, inr}
-use mathlib.Core.Bool.{Bool, true, false, not}
-use mathlib.Core.List.{List, [], ◌∷◌, ◌++◌}
+use mathlib.Core.Bool.{true, false}
+use mathlib.Core.List.{List, ◌++◌}
 use mathlib.Core.Option.{Option, none, some}
 use native.Mathlib.Omega.{arith}
 use borrow.Author.Tests.{ltb-false}
 use lib.Dec.{eqb, ltb}
 use lib.ListN.{length}
+use Rattle.std.specs.Prelude.{Result, Ok, Err, Some, None}
+use Rattle.std.proofs.lemmas.Option.{none-some, same_Some}
 use Rattle.rules.specs.Lists.{All}
 use Rattle.rules.specs.State.{live}
 use Rattle.rules.specs.Calls.{Table, first_that_applies}
@@ -17,36 +19,38 @@ use Rattle.rules.proofs.ListLaws.{bool, passed, not-false, or_right}
 use Rattle.rules.proofs.Back.{sound-facts}
 use Rattle.rules.proofs.Tables.{first-append}
 use Rattle.audit.specs.Audited.{audited}
-use Rattle.audit.specs.declared.Finding.TheVariants.{Unsound, Sound}
-use denote.Enum.Declared.{tag_of}
-use types.Run.{OneOf}
 use Rattle.held.specs.Verdicts.{verdict_of, verdict}
-use Rattle.held.specs.declared.Verdict.{Verdict}
-use Rattle.held.specs.declared.Verdict.TheVariants.{Passed, Refused}
-use Rattle.refusals.specs.Admissions.{first_tests, begun, admitted_by, bounds_in}
-use Rattle.refusals.specs.contracts.Admission.{the_type}
-use Rattle.refusals.specs.declared.Admission.TheVariants as admission
-use Rattle.refusals.specs.declared.Begun.TheVariants as tests
+use Rattle.refusals.specs.Admissions.{first_tests, begun}
+
+-- a result tells what it is made of
+pub same_Ok : {A : Type 0} (x y : A) → ◌≡◌ {A = Result A ℕ} (Ok x) (Ok y) → x ≡ y
+same_Ok x y e = cc
+
+pub same_Err : {A : Type 0} (x y : ℕ) → ◌≡◌ {A = Result A ℕ} (Err x) (Err y) → x ≡ y
+same_Err x y e = cc
+
+pub ok-err : {A : Type 0} (x : A) (n : ℕ) → ◌≡◌ {A = Result A ℕ} (Ok x) (Err n) → ⊥
+ok-err x n e = let z : ◌≡◌ {A = ℕ} 0 1 = cc in omega arith
 
 -- ---- the tests that come first
 
-refused-by : (o : Option ℕ) (n k : ℕ) → tests.Refused k ≡ begun o n → o ≡ some k
+refused-by : (o : Option ℕ) (n k : ℕ) → Err k ≡ begun o n → o ≡ some k
 unfolding begun
-refused-by (some j) n k e = let z : j ≡ k = cc in ap some z
-refused-by none n k e = let z : ◌≡◌ {A = ℕ} 0 1 = cc in absurd (omega arith)
+refused-by (some j) n k e = ap some (sym (same_Err k j e))
+refused-by none n k e = absurd (ok-err n k (sym e))
 
-pub live-by : (o : Option ℕ) (n k : ℕ) → tests.Live k ≡ begun o n → (o ≡ none) × (k ≡ n)
+pub live-by : (o : Option ℕ) (n k : ℕ) → Ok k ≡ begun o n → (o ≡ none) × (k ≡ n)
 unfolding begun
-live-by (some j) n k e = let z : ◌≡◌ {A = ℕ} 0 1 = cc in absurd (omega arith)
-live-by none n k e = (refl, cc)
+live-by (some j) n k e = absurd (ok-err k j e)
+live-by none n k e = (refl, same_Ok k n e)
 
 -- a table that begins with the first tests
 module _ (ts ys : Table) (ws : List ℕ) (who : ℕ) (fs : List ℕ) (begins : ts ≡ first_tests ws who fs ++ ys) where
-  pub first-decides : (n k : ℕ) → tests.Refused k ≡ begun (first_that_applies (first_tests ws who fs)) n → Refused k ≡ verdict ts
+  pub first-decides : (n k : ℕ) → Err k ≡ begun (first_that_applies (first_tests ws who fs)) n → Err k ≡ verdict ts
   unfolding verdict
   first-decides n k e = rw (begins, first-append (first_tests ws who fs) ys, refused-by (first_that_applies (first_tests ws who fs)) n k e) refl
 
-  pub first-leaves : (v : Verdict) → first_that_applies (first_tests ws who fs) ≡ none → v ≡ verdict ys → v ≡ verdict ts
+  pub first-leaves : (v : Result (Unit {0}) ℕ) → first_that_applies (first_tests ws who fs) ≡ none → v ≡ verdict ys → v ≡ verdict ts
   unfolding verdict
   first-leaves v e h = rw (begins, first-append (first_tests ws who fs) ys, e) h
 
@@ -58,65 +62,46 @@ first-passed ws who fs e =
     ((sound-facts ws (not-false (sound ws) p.0)).len, omega arith, ltb-false 8 (length fs) (or_right (eqb (length fs) 0) (ltb 8 (length fs)) p.1.1.0))
 
 -- a verdict, back to its table
-pub verdict-refused : (ts : Table) (n : ℕ) → Refused n ≡ verdict ts → first_that_applies ts ≡ some n
+pub verdict-refused : (ts : Table) (n : ℕ) → Err n ≡ verdict ts → first_that_applies ts ≡ some n
 unfolding verdict
 verdict-refused ts n e = go (first_that_applies ts) e
   where
-    go : (o : Option ℕ) → Refused n ≡ verdict_of o → o ≡ some n
-    go (some k) e = ap some (let z : k ≡ n = cc in z)
-    go none e = let z : ◌≡◌ {A = ℕ} 0 1 = cc in absurd (omega arith)
+    go : (o : Option ℕ) → Err n ≡ verdict_of o → o ≡ some n
+    go (some k) e = ap some (sym (same_Err n k e))
+    go none e = absurd (ok-err tt n (sym e))
 
-pub verdict-passed : (ts : Table) → Passed ≡ verdict ts → first_that_applies ts ≡ none
+pub verdict-passed : (ts : Table) → Ok tt ≡ verdict ts → first_that_applies ts ≡ none
 unfolding verdict
 verdict-passed ts e = go (first_that_applies ts) e
   where
-    go : (o : Option ℕ) → Passed ≡ verdict_of o → o ≡ none
-    go (some k) e = let z : ◌≡◌ {A = ℕ} 0 1 = cc in absurd (omega arith)
+    go : (o : Option ℕ) → Ok tt ≡ verdict_of o → o ≡ none
+    go (some k) e = absurd (ok-err tt k e)
     go none e = refl
 
 -- a table that begins with the tests xs, of which it is known what they say
 module _ (xs ys : Table) where
-  pub begin-decides : (n : ℕ) → Refused n ≡ verdict xs → Refused n ≡ verdict (xs ++ ys)
+  pub begin-decides : (n : ℕ) → Err n ≡ verdict xs → Err n ≡ verdict (xs ++ ys)
   unfolding verdict
   begin-decides n e = rw (first-append xs ys, verdict-refused xs n e) refl
 
-  pub begin-leaves : (v : Verdict) → Passed ≡ verdict xs → v ≡ verdict ys → v ≡ verdict (xs ++ ys)
+  pub begin-leaves : (v : Result (Unit {0}) ℕ) → Ok tt ≡ verdict xs → v ≡ verdict ys → v ≡ verdict (xs ++ ys)
   unfolding verdict
   begin-leaves v e h = rw (first-append xs ys, verdict-passed xs e) h
 
--- an admission, back to its verdict
-pub admitted-refused : (v : Verdict) (p : Bool) (n : ℕ) → admission.Refused n ≡ admitted_by v p → Refused n ≡ v
-admitted-refused (Refused k) p n e = let z : n ≡ k = cc in ap Refused z
-admitted-refused Passed true n e = let z : ◌≡◌ {A = ℕ} 0 1 = cc in absurd (omega arith)
-admitted-refused Passed false n e = let z : ◌≡◌ {A = ℕ} 0 1 = cc in absurd (omega arith)
-
--- the tags are those of the cases besides Refused
-pub admitted-passed : (v : Verdict) (p : Bool) → OneOf (0 ∷ 1 ∷ []) (tag_of the_type (admitted_by v p)) → Passed ≡ v
-admitted-passed (Refused n) p k = absurd (refused k)
-  where
-    refused : ◌⊎◌ (◌≡◌ {A = ℕ} 2 0) (◌≡◌ {A = ℕ} 2 1) → ⊥
-    refused (inl q) = omega arith
-    refused (inr q) = omega arith
-admitted-passed Passed p k = refl
-
-pub bounds-admitted : (p : Bool) → not (bounds_in (admitted_by Passed p)) ≡ p
-bounds-admitted true = refl
-bounds-admitted false = refl
-
 -- what the audit's answer says of the words
 module _ (ws : List ℕ) (who : ℕ) where
-  pub unsound : Unsound ≡ audited ws who → not (sound ws) ≡ true
+  pub unsound : None ≡ audited ws who → sound ws ≡ false
   unfolding audited
   unsound e = go (bool (sound ws))
     where
-      go : (sound ws ≡ true) ⊎ (sound ws ≡ false) → not (sound ws) ≡ true
-      go (inl h) = let e' : Unsound ≡ Sound (live who (decode ws).entries) = rw h at e in let z : ◌≡◌ {A = ℕ} 0 1 = cc in absurd (omega arith)
-      go (inr h) = rw h refl
+      go : (sound ws ≡ true) ⊎ (sound ws ≡ false) → sound ws ≡ false
+      go (inl h) = absurd (none-some (live who (decode ws).entries) (rw h at e))
+      go (inr h) = h
 
-  pub audited-sound : (k : ℕ) → Sound k ≡ audited ws who → (sound ws ≡ true) × (k ≡ live who (decode ws).entries)
+  pub audited-sound : (k : ℕ) → Some k ≡ audited ws who → (sound ws ≡ true) × (k ≡ live who (decode ws).entries)
   unfolding audited
   audited-sound k e = go (bool (sound ws))
     where
       go : (sound ws ≡ true) ⊎ (sound ws ≡ false) → (sound ws ≡ true) × (k ≡ live who (decode ws).entries)
-      go (inl h) = let e' : Sound k ≡ Sound (live who (decode ws).entries) = rw h at e in (h, cc)
-      go (inr h) = let e' : Sound k ≡ Unsound = rw h at e in let z : ◌≡◌ {A = ℕ} 0 1 = cc in absurd (omega arith)
+      go (inl h) = (h, same_Some k (live who (decode ws).entries) (rw h at e))
+      go (inr h) = absurd (none-some k (sym (rw h at e)))

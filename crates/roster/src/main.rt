@@ -1,19 +1,19 @@
 // The program `roster`: reads a station's roster file from standard input, opens a space with it and prints the roster back.
 #![tactic(auto)]
 
-use roster_print::SetUp;
+use numbers::Out;
 
 fn main() {
-    let mut input = [0u8; 16385];
-    let mut space = [0u64; 1809];
-    let mut roster = [0u64; 16];
-    let mut out = [0u8; 8208];
+    let mut input = [0; 16385];
+    let mut space = [0; 1809];
+    let mut roster = [0; 16];
+    let mut bytes = [0; 8208];
     let n = io::read_full(0, &mut input);
-    let done = roster_print::set_up(&input[..n], &mut roster, &mut space, &mut out);
-    let SetUp::Open(k) = done else {
-        let k = roster_print::printed(done);
-        io::write_all(1, &out[..k]);
-        return;
+    let mut out = Out {
+        bytes: &mut bytes,
+        at: 0,
     };
-    io::write_all(1, &out[..k]);
+    let _done = roster_print::set_up(&input[..n], &mut roster, &mut space, &mut out);
+    let Out { bytes, at } = out;
+    io::write_all(1, &bytes[..at]);
 }

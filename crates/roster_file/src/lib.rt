@@ -1,199 +1,113 @@
 // A roster from a file: a usual line, and the whole file in one pass.
 #![tactic(auto)]
 
-ghost use Rattle.std.specs.Prelude.{◌≡◌, ◌≤◌, ◌<◌, length, drop};
+ghost use Rattle.std.specs.Prelude.{◌≡◌, ◌≤◌, ◌<◌, length, IfSome, MatchResult};
+ghost use Rattle.numbers.specs.Numbers.{decimal};
 ghost use Rattle.numbers.specs.Parts.{parts};
-ghost use Rattle.roster_line.specs.Rights.{read_line};
 ghost use Rattle.roster_file.specs.File.{read_lines, read_file};
-ghost use Rattle.roster_file.specs.Answers.{NumberIs, NameIs, UsualIs, Added, Stepped, Went, ReadAs};
+ghost use Rattle.roster_file.specs.Answers.{Stands, NameAt, RightAt, FirstLine, Faulty, Went, ReadAs};
 
-use numbers::Beginning;
-use roster_line::Line;
+use refusal::Refusal;
+use roster_line::Right;
 
-// D5: the roster is read, or the file is refused.
-#[derive(Clone, Copy)]
-pub enum Reading {
-    Given,
-    Refused(u32),
-}
-
-// The number of a usual line, and the place of the next line.
-#[derive(Clone, Copy)]
-enum Number {
-    Value(u32, u32),
-    Other,
-}
-
-// A usual line: a bit of a word of the roster, and the place of the next line. Any other line is read by its items.
-#[derive(Clone, Copy)]
-enum Usual {
-    Right(usize, u64, u32),
-    Other,
-}
-
-// D1, D5: the place of the next line, or the refusal.
-#[derive(Clone, Copy)]
-enum Step {
-    Next(u32),
-    Refused(u32),
-}
-
-// D4: the line's right is added.
-fn add_line(line: &[u8], words: &mut [u64]) -> Reading
-    requires { length words.old ≡ 16 }
-    ensures { Added (read_line line.now) result words.old words.new }
+// T2: one or two digits, no leading zero, and a line feed; the lines after it are left.
+#[tactic(auto, using(crate::proofs::UsualLines::one_stands))]
+fn usual_number(text: &[u8]) -> Option<(u64, &[u8])>
+    ensures { IfSome result (λ x. Stands text.now (decimal x.0) x.1.now) }
 {
-    let said = roster_line::read_line(line);
-    match said {
-        Line::Right(at, c) => {
-            words::set_bit(words, at, c);
-            Reading::Given
+    match text {
+        [d @ b'0'..=b'9', b'\n', rest @ ..] => Some(((d - b'0') as u64, rest)),
+        [d @ b'1'..=b'9', e @ b'0'..=b'9', b'\n', rest @ ..] => Some((
+            (10 * (d - b'0') + (e - b'0')) as u64,
+            rest,
+        )),
+        _ => None,
+    }
+}
+
+// D2, N2, N3, N5: a kind and a number in its range.
+fn usual_name(text: &[u8], party: usize) -> Option<(Right, &[u8])>
+    requires { party ≤ 7 }
+    ensures { IfSome result (λ x. NameAt text.now party x.0 x.1.now) }
+{
+    match text {
+        [b'p', b' ', digits @ ..] => {
+            let (v, rest) = usual_number(digits)?;
+            if 63 < v {
+                return None;
+            }
+            Some((Right::partition(party, v), rest))
         }
-        Line::Refused(n) => Reading::Refused(n),
-    }
-}
-
-// T2: one or two digits, no leading zero, and a line feed. The file has n bytes.
-fn usual_number(file: &[u8], at: u32, n: u32) -> Number
-    requires { (n ≡ length file.now) × (at ≤ n) }
-    ensures { NumberIs file.now at result }
-{
-    if n - at < 2 {
-        return Number::Other;
-    }
-    let d = file[at as usize];
-    if !numbers::is_digit(d) {
-        return Number::Other;
-    }
-    let e = file[(at + 1) as usize];
-    if e == 10 {
-        return Number::Value((d - 48) as u32, at + 2);
-    }
-    if (d == 48) | !numbers::is_digit(e) | (n - at < 3) {
-        return Number::Other;
-    }
-    if file[(at + 2) as usize] != 10 {
-        return Number::Other;
-    }
-    Number::Value(10 * (d - 48) as u32 + (e - 48) as u32, at + 3)
-}
-
-// D2, N2, N3, N5: a number in its range; its digits begin there, after the minus if it has one.
-fn usual_name(file: &[u8], at: u32, n: u32, party: usize, kind: u8, minus: bool) -> Usual
-    requires { (n ≡ length file.now) × (at ≤ n) × (party ≤ 7) }
-    ensures { NameIs file.now at party kind minus result }
-{
-    let number = usual_number(file, at, n);
-    let Number::Value(v, next) = number else {
-        return Usual::Other;
-    };
-    if kind == 112 {
-        if minus | (63 < v) {
-            return Usual::Other;
+        [b'k', b' ', b'-', digits @ ..] => {
+            let (v, rest) = usual_number(digits)?;
+            if v == 0 || 31 < v {
+                return None;
+            }
+            Some((Right::key(party, 31 - v), rest))
         }
-        return Usual::Right(party, v as u64, next);
+        [b'k', b' ', digits @ ..] => {
+            let (v, rest) = usual_number(digits)?;
+            if 31 < v {
+                return None;
+            }
+            Some((Right::key(party, 31 + v), rest))
+        }
+        _ => None,
     }
-    if (kind != 107) | (31 < v) {
-        return Usual::Other;
-    }
-    if !minus {
-        return Usual::Right(8 + party, (31 + v) as u64, next);
-    }
-    if v == 0 {
-        return Usual::Other;
-    }
-    Usual::Right(8 + party, (31 - v) as u64, next)
 }
 
-// D2, D3: the line of a right as it is printed.
-fn usual_line(file: &[u8], at: u32, n: u32) -> Usual
-    requires { (n ≡ length file.now) × (at ≤ n) }
-    ensures { UsualIs file.now at result }
+// D2, D3: the line of a right as it is printed. A line of any other form is read by its items.
+fn usual_line(lines: &[u8]) -> Option<(Right, &[u8])>
+    ensures { IfSome result (λ x. RightAt lines.now x.0 x.1.now) }
 {
-    if n - at < 6 {
-        return Usual::Other;
+    match lines {
+        [party @ b'0'..=b'7', b' ', name @ ..] => usual_name(name, (party - b'0') as usize),
+        _ => None,
     }
-    let party = file[at as usize];
-    if (party < 48) | (55 < party) {
-        return Usual::Other;
-    }
-    if (file[(at + 1) as usize] != 32) | (file[(at + 3) as usize] != 32) {
-        return Usual::Other;
-    }
-    let who = (party - 48) as usize;
-    let kind = file[(at + 2) as usize];
-    if file[(at + 4) as usize] == 45 {
-        return usual_name(file, at + 5, n, who, kind, true);
-    }
-    usual_name(file, at + 4, n, who, kind, false)
 }
 
 // D1, D4: a line of any form.
-fn other_line(file: &[u8], at: u32, n: u32, words: &mut [u64]) -> Step
-    requires { (n ≡ length file.now) × (n ≤ 16384) × (at < n) × (length words.old ≡ 16) }
-    ensures { Stepped file.now at words.old result words.new }
+fn other_line(lines: &[u8]) -> Result<(Right, &[u8]), Refusal>
+    requires { 0 < length lines.now }
+    ensures { MatchResult result (λ x. FirstLine lines.now x.0 x.1.now) (λ e. Faulty lines.now e) }
 {
-    let end = numbers::part_end(file, at as usize, 10);
-    if end == n as usize {
-        return Step::Refused(11);
-    }
-    let added = add_line(&file[at as usize..end], words);
-    match added {
-        Reading::Given => Step::Next(end as u32 + 1),
-        Reading::Refused(r) => Step::Refused(r),
-    }
+    let (line, rest) = numbers::split_once(lines, b'\n').ok_or(Refusal::UnreadableLine)?;
+    let right = roster_line::read_line(line)?;
+    Ok((right, rest))
 }
 
 // D4: most lines are usual ones, and these are read quickly.
-fn next_line(file: &[u8], at: u32, n: u32, words: &mut [u64]) -> Step
-    requires { (n ≡ length file.now) × (n ≤ 16384) × (at < n) × (length words.old ≡ 16) }
-    ensures { Stepped file.now at words.old result words.new }
+fn next_line(lines: &[u8]) -> Result<(Right, &[u8]), Refusal>
+    requires { 0 < length lines.now }
+    ensures { MatchResult result (λ x. FirstLine lines.now x.0 x.1.now) (λ e. Faulty lines.now e) }
 {
-    let usual = usual_line(file, at, n);
-    match usual {
-        Usual::Right(w, c, next) => {
-            words::set_bit(words, w, c);
-            Step::Next(next)
-        }
-        Usual::Other => other_line(file, at, n, words),
+    match usual_line(lines) {
+        Some((right, rest)) => Ok((right, rest)),
+        None => other_line(lines),
     }
 }
 
-// D1, D5: the lines from there on, up to the first faulty one. A short file's places fit 32 bits, which small cores compare faster.
-fn read_lines(file: &[u8], from: usize, words: &mut [u64]) -> Reading
-    requires { (length file.now ≤ 16384) × (from ≤ length file.now) × (length words.old ≡ 16) }
-    ensures { Went (read_lines words.old (parts 10 (drop from file.now))) result words.new }
+// D1, D5: line by line, up to the first faulty one.
+fn read_lines(file: &[u8], words: &mut [u64; 16]) -> Result<(), Refusal>
+    ensures { Went (read_lines words.old (parts 10 file.now)) result words.new }
 {
-    let n = file.len() as u32;
-    let mut at = from as u32;
-    while at < n {
-        let step = next_line(file, at, n, words);
-        match step {
-            Step::Next(next) => {
-                at = next;
-            }
-            Step::Refused(r) => {
-                return Reading::Refused(r);
-            }
-        }
+    let mut lines = file;
+    while !lines.is_empty() {
+        let (right, rest) = next_line(lines)?;
+        words::set_bit(words, right.word, right.bit);
+        lines = rest;
     }
-    Reading::Given
+    Ok(())
 }
 
 // D1 to D5: a refused file leaves the words as they were.
-pub fn read_roster(file: &[u8], roster: &mut [u64]) -> Reading
+pub fn read_roster(file: &[u8], roster: &mut [u64]) -> Result<(), Refusal>
     requires { length roster.old ≡ 16 }
     ensures { ReadAs (read_file file.now) result roster.old roster.new }
 {
-    let begun = numbers::lines_start(file, 16384, b"party kind name");
-    let Beginning::At(from) = begun else {
-        return Reading::Refused(10);
-    };
-    let mut words = [0u64; 16];
-    let read = read_lines(file, from, &mut words);
-    let Reading::Given = read else {
-        return read;
-    };
+    let lines = numbers::lines_start(file, 16384, b"party kind name").ok_or(Refusal::BadFile)?;
+    let mut words = [0; 16];
+    read_lines(lines, &mut words)?;
     edits::copy_in(&words, roster);
-    Reading::Given
+    Ok(())
 }

@@ -1,109 +1,130 @@
--- A line by its items, and what the code's tests of a line come to.
-use Prim.Native.Nat.{ℕ, ◌+◌, ◌-◌, ◌≤◌, ◌<◌}
+-- What a line says, by what the code's readers of its items answer; and that what is given is in range.
+use Prim.Native.Nat.{ℕ, ◌≤◌}
 use mathlib.Core.Path.{◌≡◌, refl, sym, ap, ◌∙◌}
 use mathlib.Core.Logic.{◌⊎◌, inl, inr}
 use mathlib.Core.Bool.{Bool, true, false, ◌&&◌, cond}
 use mathlib.Core.List.{List, [], ◌∷◌}
 use mathlib.Core.Option.{Option, none, some}
-use native.Mathlib.Nat.{zero-add}
 use native.Mathlib.Omega.{arith}
-use borrow.Author.Tests.{le-leb, leb-true}
-use lib.Dec.{leb, T}
-use lib.IntN.{ℤ, pos, negsuc, nat_abs}
-use lib.ListN.{length, take, drop}
-use lib.Signed.{non_neg}
-use mir.Syntax.{w64}
-use mir.Val.{Fits}
-use Rattle.rules.specs.Names.{Name, partition, key, NameInRange, key_in_range, stored}
+use borrow.Author.Tests.{eqb-true, leb-true, le-leb}
+use lib.Dec.{eqb, leb}
+use lib.IntN.{ℤ, pos, negsuc}
+use lib.ListN.{length}
+use Rattle.std.specs.Prelude.{Some, None, Result, Ok, Err, IsErrAnd}
+use Rattle.std.specs.Prelude as code
+use Rattle.std.specs.Option.{ok_or}
+use Rattle.refusal.specs.declared.Refusal.{Refusal}
+use Rattle.refusal.specs.declared.Refusal.TheVariants.{UnreadableLine}
+use Rattle.refusal.specs.Numbers.{numbered}
+use Rattle.rules.specs.Lists.{all}
+use Rattle.rules.specs.Names.{NameInRange}
 use Rattle.rules.proofs.ListLaws.{bool, clash, and_right}
 use Rattle.rules.proofs.KeyLaws.{stored-le}
-use Rattle.numbers.specs.Numbers.{natural, whole}
+use Rattle.numbers.specs.declared.NumberError.{NumberError}
+use Rattle.numbers.specs.Numbers.{is_digit, value_of, starts_well, natural, whole}
 use Rattle.numbers.specs.Parts.{before, beyond, parts}
 use Rattle.numbers.specs.Answers.{natural_of, whole_of, fits}
-use Rattle.numbers.specs.declared.Natural.{Natural}
-use Rattle.numbers.specs.declared.Whole.{Whole}
-use Rattle.numbers.specs.declared.Whole.TheVariants as wholes
-use Rattle.numbers.proofs.Parts.{end-high, part-is, last-part, further-parts}
 use Rattle.numbers.proofs.Keys.{key_fits}
-use Rattle.roster_line.specs.Rights.{Kind, a_partition, a_key, kind_of, in_range, name_of, Said, gives, faulty, said, said_by, read_line}
-use Rattle.roster_line.specs.Answers.{kind_in, partition_in, key_in, right_in, judged_in, line_is}
-use Rattle.roster_line.specs.declared.Bit.TheVariants as bits
-use Rattle.roster_line.specs.declared.Kind as codes
-use Rattle.roster_line.specs.declared.Line.TheVariants as line
+use Rattle.numbers.proofs.NumbersBack.{free, part-last}
+use Rattle.roster_line.specs.declared.Right.{Right}
+use Rattle.roster_line.specs.Rights.{Kind, a_partition, a_key, kind_of, in_range, name_of, Said, gives, faulty, judged, said, said_by, read_line}
+use Rattle.roster_line.specs.Answers.{judged_in, line_is}
 
--- ---- the items: the first ends at a, the second at b, the third at c
+-- ---- a blank in the number: there are more than three items, and the number can't be read
 
-module _ (t : List ℕ) (a : ℕ) (ea : a ≡ 0 + length (before 32 (drop 0 t))) where
-  low : 0 ≤ length t
-  low = omega arith
+parted : (t : List ℕ) → free 32 t ≡ false → (m : List ℕ) × ((ms : List (List ℕ)) × (beyond 32 t ≡ m ∷ ms))
+parted [] e = let z : ◌≡◌ {A = ℕ} 0 1 = cc in absurd (omega arith)
+parted (b ∷ bs) e = go (bool (eqb b 32)) (parted bs)
+  where
+    go : (eqb b 32 ≡ true) ⊎ (eqb b 32 ≡ false) → (free 32 bs ≡ false → (m : List ℕ) × ((ms : List (List ℕ)) × (beyond 32 bs ≡ m ∷ ms)))
+        → (m : List ℕ) × ((ms : List (List ℕ)) × (beyond 32 (b ∷ bs) ≡ m ∷ ms))
+    go (inl q) more = (before 32 bs, (beyond 32 bs, rw q))
+    go (inr q) more = let h = more (rw q at e) in (h.0, (h.1.0, rw q h.1.1))
 
-  pub first-end : a ≤ length t
-  first-end = end-high 32 t 0 a low ea
+no_digits : (t : List ℕ) → free 32 t ≡ false → all is_digit t ≡ false
+no_digits [] e = e
+no_digits (b ∷ bs) e = go (bool (eqb b 32)) (bool (is_digit b)) (no_digits bs)
+  where
+    go : (eqb b 32 ≡ true) ⊎ (eqb b 32 ≡ false) → (is_digit b ≡ true) ⊎ (is_digit b ≡ false) → (free 32 bs ≡ false → all is_digit bs ≡ false)
+        → all is_digit (b ∷ bs) ≡ false
+    go (inl q) d more = rw (eqb-true b 32 q) refl
+    go (inr q) (inl d) more = rw d (more (rw q at e))
+    go (inr q) (inr d) more = rw d
 
-  pub one-item : a ≡ length t → read_line t ≡ faulty 11
+no_natural : (t : List ℕ) → free 32 t ≡ false → natural t ≡ none
+unfolding natural
+no_natural t e = rw (no_digits t e) (go (starts_well t))
+  where
+    go : (b : Bool) → ◌≡◌ {A = Option ℕ} (cond (b && false) (some (value_of t)) none) none
+    go true = refl
+    go false = refl
+
+no_whole : (t : List ℕ) → free 32 t ≡ false → whole t ≡ none
+unfolding whole
+no_whole [] e = refl
+no_whole (b ∷ bs) e = go (bool (eqb b 45))
+  where
+    go : (eqb b 45 ≡ true) ⊎ (eqb b 45 ≡ false) → whole (b ∷ bs) ≡ none
+    go (inl q) = rw (q, no_natural bs (rw (eqb-true b 45 q) at e))
+    go (inr q) = rw (q, no_natural (b ∷ bs) e)
+
+no_number : (p : Option ℕ) (k : Option Kind) → said p k none ≡ faulty 11
+no_number none k = refl
+no_number (some who) none = refl
+no_number (some who) (some kind) = refl
+
+-- ---- the items
+
+-- two bytes or more are no kind
+pub long-kind : (t : List ℕ) → 2 ≤ length t → kind_of t ≡ none
+long-kind [] h = absurd (omega arith)
+long-kind (a ∷ []) h = absurd (omega arith)
+long-kind (a ∷ b ∷ t) h = go (eqb a 112) (eqb a 107)
+  where
+    go : (p k : Bool) → cond (p && false) (some a_partition) (cond (k && false) (some a_key) none) ≡ none
+    go true true = refl
+    go true false = refl
+    go false true = refl
+    go false false = refl
+
+pub one-item : (line : List ℕ) → parts 32 line ≡ line ∷ [] → read_line line ≡ faulty 11
+unfolding read_line
+one-item line e = ap said_by e
+
+module _ (line a rest : List ℕ) (first : parts 32 line ≡ a ∷ parts 32 rest) where
+  pub two_items : parts 32 rest ≡ rest ∷ [] → read_line line ≡ faulty 11
   unfolding read_line
-  one-item h = ap (λ (ps : List (List ℕ)). said_by (before 32 t ∷ ps)) (last-part 32 t 0 a low ea h)
+  two_items e = ap said_by (first ∙ ap (λ (ps : List (List ℕ)). a ∷ ps) e)
 
-  module _ (na : a ≡ length t → ⊥) (b : ℕ) (eb : b ≡ a + 1 + length (before 32 (drop (a + 1) t))) where
-    next : a + 1 ≤ length t
-    next = omega (arith, first-end, na)
-
-    pub second-end : b ≤ length t
-    second-end = end-high 32 t (a + 1) b next eb
-
-    pub two_items : b ≡ length t → read_line t ≡ faulty 11
+  module _ (b number : List ℕ) (second : parts 32 rest ≡ b ∷ parts 32 number) where
+    pub three-items : read_line line ≡ said (natural a) (kind_of b) (whole number)
     unfolding read_line
-    two_items h =
-        ap (λ (ps : List (List ℕ)). said_by (before 32 t ∷ ps)) (further-parts 32 t 0 a low ea na)
-        ∙ ap (λ (ps : List (List ℕ)). said_by (before 32 t ∷ before 32 (drop (a + 1) t) ∷ ps)) (last-part 32 t (a + 1) b next eb h)
+    three-items = ap said_by (first ∙ ap (λ (ps : List (List ℕ)). a ∷ ps) second) ∙ go (bool (free 32 number))
+      where
+        go : (free 32 number ≡ true) ⊎ (free 32 number ≡ false) → said_by (a ∷ b ∷ parts 32 number) ≡ said (natural a) (kind_of b) (whole number)
+        go (inl e) = ap (λ (ps : List (List ℕ)). said_by (a ∷ b ∷ ps)) (part-last 32 number e)
+        go (inr e) =
+            let h = parted number e in
+            rw (no_whole number e) (ap (λ (ps : List (List ℕ)). said_by (a ∷ b ∷ before 32 number ∷ ps)) h.1.1 ∙ sym (no_number (natural a) (kind_of b)))
 
-    module _ (nb : b ≡ length t → ⊥) (c : ℕ) (ec : c ≡ b + 1 + length (before 32 (drop (b + 1) t))) where
-      after : b + 1 ≤ length t
-      after = omega (arith, second-end, nb)
+    pub no_kind : kind_of b ≡ none → read_line line ≡ faulty 11
+    no_kind e = three-items ∙ ap (λ (k : Option Kind). said (natural a) k (whole number)) e ∙ unkind (natural a) (whole number)
+      where
+        unkind : (p : Option ℕ) (n : Option ℤ) → said p none n ≡ faulty 11
+        unkind none n = refl
+        unkind (some who) n = refl
 
-      three : parts 32 t ≡ before 32 t ∷ before 32 (drop (a + 1) t) ∷ before 32 (drop (b + 1) t) ∷ beyond 32 (drop (b + 1) t)
-      three =
-          ap (λ (ps : List (List ℕ)). before 32 t ∷ ps) (further-parts 32 t 0 a low ea na)
-          ∙ ap (λ (ps : List (List ℕ)). before 32 t ∷ before 32 (drop (a + 1) t) ∷ ps) (further-parts 32 t (a + 1) b next eb nb)
+-- ---- party and number
 
-      pub more-items : (c ≡ length t → ⊥) → read_line t ≡ faulty 11
-      unfolding read_line
-      more-items h =
-          ap said_by three
-          ∙ ap (λ (ps : List (List ℕ)). said_by (before 32 t ∷ before 32 (drop (a + 1) t) ∷ before 32 (drop (b + 1) t) ∷ ps))
-          (further-parts 32 t (b + 1) c after ec h)
+-- the exit of a `?` at what is missing, or can't be read
+pub refused-by : {A B : Type 0} (o : code.Option A) (r : Result B Refusal) (e d : Refusal) → IsErrAnd r (λ y. y ≡ e) → Err e ≡ ok_or o d → r ≡ Err d
+refused-by None (Err y) e d h q = let z : e ≡ d = cc in rw (h, z)
+refused-by (Some x) r e d h q = let z : ◌≡◌ {A = ℕ} 0 1 = cc in absurd (omega arith)
+refused-by o (Ok x) e d h q = absurd h
 
-      pub three-items : c ≡ length t
-          → read_line t ≡ said (natural (take a t)) (kind_of (take (b - (a + 1)) (drop (a + 1) t))) (whole (take (length t - (b + 1)) (drop (b + 1) t)))
-      unfolding read_line
-      three-items h =
-          let z : a - 0 ≡ a = omega arith in
-          let p : take a t ≡ before 32 t = ap (λ (n : ℕ). take n t) (sym z) ∙ part-is 32 t 0 a low ea in
-          let q : take (b - (a + 1)) (drop (a + 1) t) ≡ before 32 (drop (a + 1) t) = part-is 32 t (a + 1) b next eb in
-          let r : take (length t - (b + 1)) (drop (b + 1) t) ≡ before 32 (drop (b + 1) t) =
-          ap (λ (n : ℕ). take (n - (b + 1)) (drop (b + 1) t)) (sym h) ∙ part-is 32 t (b + 1) c after ec in
-          rw (p, q, r)
-          (ap said_by three
-          ∙ ap (λ (ps : List (List ℕ)). said_by (before 32 t ∷ before 32 (drop (a + 1) t) ∷ before 32 (drop (b + 1) t) ∷ ps))
-          (last-part 32 t (b + 1) c after ec h))
-
--- ---- a number by its kind
-
-pub partition-fits : (k : ℤ) → in_range a_partition k ≡ true → T (non_neg k) × Fits w64 (nat_abs k)
-partition-fits (pos v) e = let l = leb-true v 63 (and_right (leb 0 v) (leb v 63) e) in (tt, record { fits = omega arith })
-partition-fits (negsuc v) e = let z : ◌≡◌ {A = ℕ} 0 1 = cc in absurd (omega arith)
-
-pub partition-at : (k : ℤ) → in_range a_partition k ≡ true → bits.At (nat_abs k) ≡ partition_in (wholes.Value k)
-partition-at k e = rw e
-
-pub partition-out : (k : ℤ) → in_range a_partition k ≡ false → bits.Outside ≡ partition_in (wholes.Value k)
-partition-out k e = rw e
-
-pub key-at : (k : ℤ) → key_in_range k ≡ true → bits.At (stored k) ≡ key_in (wholes.Value k)
-key-at k e = rw e
-
-pub key-out : (k : ℤ) → key_in_range k ≡ false → bits.Outside ≡ key_in (wholes.Value k)
-key-out k e = rw e
+pub unreadable : {A : Type 0} (o : code.Option A) (r : Result Right Refusal) (e : Refusal) → IsErrAnd r (λ y. y ≡ e) → Err e ≡ ok_or o UnreadableLine
+    → numbered r ≡ Err 11
+unreadable o r e h q = ap numbered (refused-by o r e UnreadableLine h q)
 
 -- 32 bits hold a number in range, so one that they don't hold is out of range
 range-fits : (kind : Kind) (k : ℤ) → in_range kind k ≡ true → fits k ≡ true
@@ -118,76 +139,30 @@ large-out kind k h = go (bool (in_range kind k))
     go (inl e) = clash (fits k) (range-fits kind k e) h
     go (inr e) = e
 
-partition-of : (k : ℤ) → partition_in (whole_of (some k)) ≡ cond (in_range a_partition k) (bits.At (nat_abs k)) bits.Outside
-unfolding whole_of
-partition-of k = go (bool (fits k))
+judged-of : (p : Option ℕ) (kind : Kind) (n : Option ℤ) → judged_in (natural_of 7 p) kind (whole_of n) ≡ line_is (said p (some kind) n)
+unfolding natural_of whole_of
+judged-of none kind n = refl
+judged-of (some who) kind none = go (bool (leb who 7))
   where
-    go : (fits k ≡ true) ⊎ (fits k ≡ false) → partition_in (whole_of (some k)) ≡ cond (in_range a_partition k) (bits.At (nat_abs k)) bits.Outside
-    go (inl e) = rw e
-    go (inr e) = rw (e, large-out a_partition k e)
-
-key-of : (k : ℤ) → key_in (whole_of (some k)) ≡ cond (key_in_range k) (bits.At (stored k)) bits.Outside
-unfolding whole_of
-key-of k = go (bool (fits k))
-  where
-    go : (fits k ≡ true) ⊎ (fits k ≡ false) → key_in (whole_of (some k)) ≡ cond (key_in_range k) (bits.At (stored k)) bits.Outside
-    go (inl e) = rw e
-    go (inr e) = rw (e, large-out a_key k e)
-
--- ---- party, kind and number
-
--- what is said of a party, where the number is in range or not
-abbrev said_of : Option ℕ → Bool → Name → Said
-said_of none b n = faulty 11
-said_of (some who) b n = cond (leb who 7 && b) (gives who n) (faulty 12)
-
-right_of : (p : Option ℕ) (from c : ℕ) (n : Name) (b : Bool) → ((who : ℕ) → line.Right (from + who) c ≡ line_is (gives who n))
-    → right_in (natural_of 7 p) from (cond b (bits.At c) bits.Outside) ≡ line_is (said_of p b n)
-unfolding natural_of
-right_of none from c n true h = refl
-right_of none from c n false h = refl
-right_of (some who) from c n true h = go (bool (leb who 7))
-  where
-    go : (leb who 7 ≡ true) ⊎ (leb who 7 ≡ false) → right_in (natural_of 7 (some who)) from (bits.At c) ≡ line_is (said_of (some who) true n)
-    go (inl e) = rw e (h who)
-    go (inr e) = rw e
-right_of (some who) from c n false h = go (bool (leb who 7))
-  where
-    go : (leb who 7 ≡ true) ⊎ (leb who 7 ≡ false) → right_in (natural_of 7 (some who)) from bits.Outside ≡ line_is (said_of (some who) false n)
+    go : (leb who 7 ≡ true) ⊎ (leb who 7 ≡ false) → judged_in (natural_of 7 (some who)) kind (whole_of none) ≡ Err 11
     go (inl e) = rw e
     go (inr e) = rw e
+judged-of (some who) kind (some k) = go (bool (leb who 7)) (bool (fits k))
+  where
+    go : (leb who 7 ≡ true) ⊎ (leb who 7 ≡ false) → (fits k ≡ true) ⊎ (fits k ≡ false)
+        → judged_in (natural_of 7 (some who)) kind (whole_of (some k)) ≡ line_is (judged who kind k)
+    go (inl e) (inl h) = rw (e, h) (rw e refl)
+    go (inl e) (inr h) = rw (e, h, large-out kind k h)
+    go (inr e) (inl h) = rw (e, h)
+    go (inr e) (inr h) = rw (e, h)
 
-said-of : (p : Option ℕ) (kind : Kind) (k : ℤ) → said p (some kind) (some k) ≡ said_of p (in_range kind k) (name_of kind k)
-said-of none kind k = refl
-said-of (some who) kind k = refl
-
--- nothing is given where the kind or the number can't be read
-no_kind : (p : Option ℕ) (n : Option ℤ) → said p none n ≡ faulty 11
-no_kind none n = refl
-no_kind (some who) n = refl
-
-no_number : (p : Option ℕ) (kind : Kind) → said p (some kind) none ≡ faulty 11
-no_number none kind = refl
-no_number (some who) kind = refl
-
-judged-of : (p : Option ℕ) (k : Option Kind) (n : Option ℤ) → judged_in (natural_of 7 p) (kind_in k) (whole_of n) ≡ line_is (said p k n)
-unfolding whole_of
-judged-of p none n = ap line_is (sym (no_kind p n))
-judged-of p (some a_partition) none = ap line_is (sym (no_number p a_partition))
-judged-of p (some a_key) none = ap line_is (sym (no_number p a_key))
-judged-of p (some a_partition) (some k) =
-    ap (right_in (natural_of 7 p) 0) (partition-of k)
-    ∙ right_of p 0 (nat_abs k) (partition (nat_abs k)) (in_range a_partition k) (λ who. ap (λ (i : ℕ). line.Right i (nat_abs k)) (zero-add who))
-    ∙ ap line_is (sym (said-of p a_partition k))
-judged-of p (some a_key) (some k) =
-    ap (right_in (natural_of 7 p) 8) (key-of k)
-    ∙ right_of p 8 (stored k) (key (stored k)) (key_in_range k) (λ who. refl)
-    ∙ ap line_is (sym (said-of p a_key k))
-
--- the same of what the readers answered
-pub judged-by : (p : Natural) (k : codes.Kind) (n : Whole) (a b c : List ℕ) → p ≡ natural_of 7 (natural a) → k ≡ kind_in (kind_of b) → n ≡ whole_of (whole c)
-    → judged_in p k n ≡ line_is (said (natural a) (kind_of b) (whole c))
-judged-by p k n a b c x y z = rw (x, y, z) (judged-of (natural a) (kind_of b) (whole c))
+pub answered : (line a rest b number : List ℕ) → parts 32 line ≡ a ∷ parts 32 rest → parts 32 rest ≡ b ∷ parts 32 number
+    → (kind : Kind) → kind_of b ≡ some kind → (p : Result ℕ NumberError) (n : Result ℤ NumberError)
+    → p ≡ natural_of 7 (natural a) → n ≡ whole_of (whole number) → judged_in p kind n ≡ line_is (read_line line)
+answered line a rest b number first second kind k p n x y =
+    rw (x, y)
+    (judged-of (natural a) kind (whole number)
+    ∙ ap line_is (ap (λ (k : Option Kind). said (natural a) k (whole number)) (sym k) ∙ sym (three-items line a rest first b number second)))
 
 -- ---- what is given is in range
 
@@ -221,8 +196,3 @@ line-in-range t = go (parts 32 t)
     go (a ∷ b ∷ []) = tt
     go (a ∷ b ∷ c ∷ []) = said-in-range (natural a) (kind_of b) (whole c)
     go (a ∷ b ∷ c ∷ d ∷ ps) = tt
-
-pub right-in-range : (s : Said) (i c : ℕ) → line.Right i c ≡ line_is s → InRange s → (i < 16) × (c < 64)
-right-in-range (gives who (partition d)) i c q h = let x : i ≡ who = cc in let y : c ≡ d = cc in (omega (arith, h.0), omega (arith, h.1))
-right-in-range (gives who (key d)) i c q h = let x : i ≡ 8 + who = cc in let y : c ≡ d = cc in (omega (arith, h.0), omega (arith, h.1))
-right-in-range (faulty n) i c q h = let z : ◌≡◌ {A = ℕ} 0 1 = cc in absurd (omega arith)

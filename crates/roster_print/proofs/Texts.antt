@@ -5,20 +5,17 @@ use mathlib.Core.Bool.{true, false}
 use mathlib.Core.List.{List, [], ◌∷◌, ◌++◌, map, append_assoc}
 use native.Mathlib.Numerals.{add-one}
 use native.Mathlib.Omega.{arith}
-use lib.ListN.{length, get_or}
+use lib.ListN.{get_or}
 use Rattle.rules.specs.Lists.{keep, from}
 use Rattle.rules.specs.Names.{parties, Name, partition, key, bit, bits_in}
 use Rattle.numbers.specs.Numbers.{decimal}
-use Rattle.numbers.proofs.Placed.{Unfinished, begun}
+use Rattle.numbers.proofs.Placed.{Unfinished}
 use Rattle.roster_file.specs.File.{names_line}
 use Rattle.roster_file.specs.Printed.{name_text, right_text, names_text, party_text, parties_text, printed}
 use Rattle.roster_print.specs.Answers.{named}
 use Rattle.roster_print.specs.declared.Kind.TheVariants as kind
 
--- a text as its parts
-pub begun-as : (out : List ℕ) (at : ℕ) (whole ys : List ℕ) → whole ≡ ys → at + length whole ≤ length out → Unfinished out at whole out at ys
-begun-as out at whole ys e h = subst (λ (t : List ℕ). Unfinished out at whole out at t) e (begun out at whole h)
-
+-- what is left, as its parts
 pub left_as : {out₀ : List ℕ} {at₀ : ℕ} {whole out : List ℕ} {at : ℕ} (xs ys : List ℕ) → xs ≡ ys
     → Unfinished out₀ at₀ whole out at xs → Unfinished out₀ at₀ whole out at ys
 left_as {out₀} {at₀} {whole} {out} {at} xs ys e u = subst (λ (t : List ℕ). Unfinished out₀ at₀ whole out at t) e u

@@ -1,118 +1,116 @@
 // What is printed of a roster, and the setting up of a space from a roster file.
 #![tactic(auto)]
 
-ghost use Rattle.std.specs.Prelude.{◌≡◌, [], ◌∷◌, ◌++◌, map, ◌+◌, ◌<◌, ◌≤◌, length};
+ghost use Rattle.std.specs.Prelude.{◌≡◌, [], ◌∷◌, ◌++◌, map, ◌+◌, ◌<◌, ◌≤◌, length, slice_index_or};
 ghost use Rattle.numbers.specs.Written.{Written};
 ghost use Rattle.roster_file.specs.File.{read_file};
 ghost use Rattle.rules.specs.Names.{bits_in};
 ghost use Rattle.roster_file.specs.Printed.{name_text, right_text, names_text, party_text, printed, output};
-ghost use Rattle.roster_print.specs.Answers.{named, printed_by, SetUpBy};
+ghost use Rattle.roster_print.specs.Answers.{named, SetUpBy};
 
-use roster_file::Reading;
+use numbers::Out;
+use refusal::Refusal;
 
-// Whether a word's bits are partitions or keys.
+// Whether a word's bits are partitions or keys. (A closure in its place would be made of the same two arms.)
 #[derive(Clone, Copy)]
 enum Kind {
     Partition,
     Key,
 }
 
-// D7: the space is open, or the file is refused; that many bytes are to be printed.
-#[derive(Clone, Copy)]
-pub enum SetUp {
-    Open(usize),
-    Refused(usize),
-}
-
 // D2: the kind and the number of a line.
-fn render_name(kind: Kind, c: u64, out: &mut [u8], at: usize) -> usize
-    requires { at + length (name_text (named kind c)) ≤ length out.old }
-    ensures { Written out.old at (name_text (named kind c)) out.new result }
+fn render_name(kind: Kind, c: u64, out: &mut Out)
+    requires { out.old.at + length (name_text (named kind c)) ≤ length out.old.bytes.now }
+    ensures written { Written out.old.bytes.now out.old.at (name_text (named kind c)) out.new.bytes.now out.new.at }
+    ensures len { length out.new.bytes.now ≡ length out.old.bytes.now }
+    ensures same_reference { out.new.bytes.ghost_name ≡ out.old.bytes.ghost_name }
 {
     match kind {
         Kind::Partition => {
-            let next = numbers::place(b"p ", out, at);
-            numbers::render_decimal(c, out, next)
+            out.place(b"p ");
+            out.decimal(c);
         }
         Kind::Key => {
-            let next = numbers::place(b"k ", out, at);
-            numbers::render_key(c, out, next)
+            out.place(b"k ");
+            out.key(c);
         }
     }
 }
 
 // D2: a line.
-fn render_right(party: u64, kind: Kind, c: u64, out: &mut [u8], at: usize) -> usize
-    requires { at + length (right_text party (named kind c) ++ (10 ∷ [])) ≤ length out.old }
-    ensures { Written out.old at (right_text party (named kind c) ++ (10 ∷ [])) out.new result }
+fn render_right(party: u64, kind: Kind, c: u64, out: &mut Out)
+    requires { out.old.at + length (right_text party (named kind c) ++ (10 ∷ [])) ≤ length out.old.bytes.now }
+    ensures written { Written out.old.bytes.now out.old.at (right_text party (named kind c) ++ (10 ∷ [])) out.new.bytes.now out.new.at }
+    ensures len { length out.new.bytes.now ≡ length out.old.bytes.now }
+    ensures same_reference { out.new.bytes.ghost_name ≡ out.old.bytes.ghost_name }
 {
-    let a = numbers::render_decimal(party, out, at);
-    let b = numbers::place(b" ", out, a);
-    let end = render_name(kind, c, out, b);
-    numbers::place(b"\n", out, end)
+    out.decimal(party);
+    out.place(b" ");
+    render_name(kind, c, out);
+    out.place(b"\n");
 }
 
 // D6: the names in a word, smallest first.
-fn render_word(party: u64, kind: Kind, w: u64, out: &mut [u8], at: usize) -> usize
-    requires { at + length (names_text party (map (named kind) (bits_in w))) ≤ length out.old }
-    ensures { Written out.old at (names_text party (map (named kind) (bits_in w))) out.new result }
+fn render_word(party: u64, kind: Kind, w: u64, out: &mut Out)
+    requires { out.old.at + length (names_text party (map (named kind) (bits_in w))) ≤ length out.old.bytes.now }
+    ensures written { Written out.old.bytes.now out.old.at (names_text party (map (named kind) (bits_in w))) out.new.bytes.now out.new.at }
+    ensures len { length out.new.bytes.now ≡ length out.old.bytes.now }
+    ensures same_reference { out.new.bytes.ghost_name ≡ out.old.bytes.ghost_name }
 {
-    let mut end = at;
-    let mut c: u64 = 0;
-    while c < 64 {
+    for c in 0..64 {
         if words::has_bit(w, c) {
-            end = render_right(party, kind, c, out, end);
+            render_right(party, kind, c, out);
         }
-        c += 1;
     }
-    end
 }
 
 // D6: partitions before keys.
-fn render_party(roster: &[u64], party: usize, out: &mut [u8], at: usize) -> usize
-    requires { (length roster.now ≡ 16) × (party < 8) × (at + length (party_text roster.now party) ≤ length out.old) }
-    ensures { Written out.old at (party_text roster.now party) out.new result }
+fn render_party(roster: &[u64; 16], party: usize, out: &mut Out)
+    requires bound { party < 8 }
+    requires room { out.old.at + length (party_text roster.now party) ≤ length out.old.bytes.now }
+    ensures written { Written out.old.bytes.now out.old.at (party_text roster.now party) out.new.bytes.now out.new.at }
+    ensures len { length out.new.bytes.now ≡ length out.old.bytes.now }
+    ensures same_reference { out.new.bytes.ghost_name ≡ out.old.bytes.ghost_name }
 {
-    let end = render_word(party as u64, Kind::Partition, roster[party], out, at);
-    render_word(party as u64, Kind::Key, roster[8 + party], out, end)
+    render_word(party as u64, Kind::Partition, roster[party], out);
+    render_word(party as u64, Kind::Key, roster[8 + party], out);
 }
 
 // D6: the names line, and then party by party.
-fn render_roster(roster: &[u64], out: &mut [u8]) -> usize
-    requires { (length roster.now ≡ 16) × (length (printed roster.now) ≤ length out.old) }
-    ensures { Written out.old 0 (printed roster.now) out.new result }
+fn render_roster(roster: &[u64; 16], out: &mut Out)
+    requires { out.old.at + length (printed roster.now) ≤ length out.old.bytes.now }
+    ensures written { Written out.old.bytes.now out.old.at (printed roster.now) out.new.bytes.now out.new.at }
+    ensures len { length out.new.bytes.now ≡ length out.old.bytes.now }
+    ensures same_reference { out.new.bytes.ghost_name ≡ out.old.bytes.ghost_name }
 {
-    let mut end = numbers::place(b"party kind name\n", out, 0);
-    let mut party: usize = 0;
-    while party < 8 {
-        end = render_party(roster, party, out, end);
-        party += 1;
+    out.place(b"party kind name\n");
+    for party in 0..8 {
+        render_party(roster, party, out);
     }
-    end
 }
 
 // D7: the file is read; then the space is opened with its roster, which is printed, or the refusal is.
-pub fn set_up(file: &[u8], roster: &mut [u64], space: &mut [u64], out: &mut [u8]) -> SetUp
-    requires { (length roster.old ≡ 16) × (8208 ≤ length out.old) }
-    ensures written { Written out.old 0 (output file.now) out.new (printed_by result) }
+pub fn set_up(
+    file: &[u8],
+    roster: &mut [u64; 16],
+    space: &mut [u64],
+    out: &mut Out,
+) -> Result<(), Refusal>
+    requires { out.old.at + 8208 ≤ length out.old.bytes.now }
+    ensures written { Written out.old.bytes.now out.old.at (output file.now) out.new.bytes.now out.new.at }
     ensures set_up_by { SetUpBy (read_file file.now) result roster.old roster.new space.old space.new }
+    ensures same_reference { out.new.bytes.ghost_name ≡ out.old.bytes.ghost_name }
 {
-    let read = roster_file::read_roster(file, roster);
-    match read {
-        Reading::Given => {
-            space::open(space, roster);
-            SetUp::Open(render_roster(roster, out))
+    match roster_file::read_roster(file, roster) {
+        Ok(()) => {
+            // not handed on: only a space of another length is refused here, and such a one has always been left as it was
+            let _opened = space::open(space, roster);
+            render_roster(roster, out);
+            Ok(())
         }
-        Reading::Refused(n) => SetUp::Refused(numbers::render_refusal(n, out)),
-    }
-}
-
-// D7: how many bytes are to be printed.
-pub fn printed(s: SetUp) -> usize
-    ensures { result ≡ printed_by s }
-{
-    match s {
-        SetUp::Open(k) => k,
-        SetUp::Refused(k) => k,
+        Err(refusal) => {
+            out.refusal(refusal);
+            Err(refusal)
+        }
     }
 }

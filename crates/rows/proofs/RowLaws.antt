@@ -70,14 +70,16 @@ fields-tested n l =
 
 -- a row of 14 words; its field words are the part that is lent
 module _ (r : List ℕ) (len : length r ≡ 14) where
-  pub the_fields : take (length r - 6) (drop 6 r) ≡ drop 6 r
-  the_fields = take_all (length r - 6) (drop 6 r) (simp length-drop (omega arith))
-
-  pub row-tested : row_ok r ≡ (head_ok r && (all put_field (drop 6 r) && all is_zero (drop (6 + get_or r 5 0) r)))
+  row-tested : row_ok r ≡ (head_ok r && (all put_field (drop 6 r) && all is_zero (drop (6 + get_or r 5 0) r)))
   unfolding row_ok
   row-tested =
       rw (take_all 8 (drop 6 r) (simp length-drop (omega arith)), ← (drop-drop (get_or r 5 0) 6 r))
       (ap (λ (b : Bool). head_ok r && b) (fields-tested (get_or r 5 0) (drop 6 r)))
+
+  -- its field words are the part that is lent
+  pub row-decided : {head fields : Bool} → head ≡ head_ok r → fields ≡ all put_field (take (length r - 6) (drop 6 r))
+      → row_ok r ≡ (head && (fields && all is_zero (drop (6 + get_or r 5 0) r)))
+  row-decided h f = rw (h, f, take_all (length r - 6) (drop 6 r) (simp length-drop (omega arith))) row-tested
 
 -- a row is tested alike with and without the words that follow it
 head-cut : (r : List ℕ) → head_ok (take 14 r) ≡ head_ok r

@@ -1,6 +1,6 @@
--- Rows of zeros, by the code's two tests: the bits of several words gathered by `|`, and one word after the other.
+-- Rows of zeros, by the bits of several words, gathered by `|`.
 use mathlib.Core.Path.{◌≡◌, refl, sym, ◌∙◌}
-use mathlib.Core.Bool.{Bool, false, ◌&&◌, and-true, and_assoc}
+use mathlib.Core.Bool.{false, ◌&&◌, and-true, and_assoc}
 use mathlib.Core.List.{List}
 use Prim.Native.Nat.{ℕ, zero, suc, ◌+◌, ◌≤◌, ◌<◌}
 use native.Mathlib.Omega.{arith}
@@ -9,7 +9,7 @@ use lib.Bits.{bit_or, bit_and, or_add_and, and_le_r}
 use lib.ListN.{length, get_or, drop, length-drop}
 use Rattle.rules.specs.Lists.{all}
 use Rattle.rules.specs.Words.{is_zero}
-use Rattle.rules.proofs.Loops.{all-next, all_end, all-fails, all-goes-on}
+use Rattle.rules.proofs.Loops.{all-next, all_end}
 
 -- two words gathered are 0 exactly where both are
 or-zero : (a b : ℕ) → is_zero (bit_or a b) ≡ (is_zero a && is_zero b)
@@ -41,11 +41,3 @@ module _ (l : List ℕ) (len : length l ≡ 14) where
       sym (and-true (is_zero (gathered l 2 11)))
       ∙ (rw (all_end is_zero (drop 14 l) 0 (simp length-drop (omega arith))) at (gathered-decides l 2 11 (omega arith)))
       ∙ (rw e at (gathered-decides l 0 1 (omega arith)))
-
--- a turn of the loop that leaves at the first word that is not 0: at i what is left decides the whole
-module _ (l : List ℕ) (i : ℕ) {whole : Bool} (left : all is_zero (drop i l) ≡ whole) (h : i < length l) where
-  pub zero-stops : (get_or l i 0 ≡ 0 → ⊥) → false ≡ whole
-  zero-stops e = all-fails is_zero l i whole left h (is_zero (get_or l i 0)) refl (rw (ne_eqb (get_or l i 0) 0 e))
-
-  pub zero-goes-on : get_or l i 0 ≡ 0 → all is_zero (drop (i + 1) l) ≡ whole
-  zero-goes-on e = all-goes-on is_zero l i whole left h (is_zero (get_or l i 0)) refl (rw e)

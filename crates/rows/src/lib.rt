@@ -1,7 +1,7 @@
-// One row of the table: whether its words are sound. Counters are u32, since the board's core has 32 bits.
+// One row of the table: whether its words are sound.
 #![tactic(auto)]
 
-ghost use Rattle.std.specs.Prelude.{◌≡◌, ◌≤◌, length, drop};
+ghost use Rattle.std.specs.Prelude.{◌≡◌, length, drop};
 ghost use Rattle.rules.specs.Lists.{all};
 ghost use Rattle.rules.specs.Fields.{put_field};
 ghost use Rattle.rules.specs.Words.{is_zero, head_ok, row_ok};
@@ -20,18 +20,14 @@ pub fn blank(row: &[u64]) -> bool
     rest == 0
 }
 
-// F3: every field is one that a put may carry.
+// F3: every field is one that a put may carry. A `for`: the boards' build takes no iterator's Option of a reference (board/module.py).
 pub fn put_fields(fields: &[u64]) -> bool
-    requires { length fields.now ≤ 8 }
     ensures { result ≡ all put_field fields.now }
 {
-    let n = fields.len() as u32;
-    let mut i = 0;
-    while i < n {
-        if !words::put_field(fields[i as usize]) {
+    for w in fields {
+        if !words::put_field(*w) {
             return false;
         }
-        i += 1;
     }
     true
 }
@@ -51,17 +47,15 @@ fn head_ok(row: &[u64]) -> bool
     some & (few & (writer & (read_partitions & (read_key & (take_partitions & take_key)))))
 }
 
-// S7: the words of the row from that one on are 0.
+// S7: the words of the row from that one on are 0. The index is a u32, since the board's core has 32 bits.
 fn zero_from(row: &[u64], from: u32) -> bool
     requires { length row.now ≡ 14 }
     ensures { result ≡ all is_zero (drop from row.now) }
 {
-    let mut i = from;
-    while i < 14 {
+    for i in from..14 {
         if row[i as usize] != 0 {
             return false;
         }
-        i += 1;
     }
     true
 }
@@ -72,11 +66,5 @@ pub fn row_ok(row: &[u64]) -> bool
     requires { length row.now ≡ 14 }
     ensures { result ≡ row_ok row.now }
 {
-    if !head_ok(row) {
-        return false;
-    }
-    if !put_fields(&row[6..]) {
-        return false;
-    }
-    zero_from(row, 6 + row[5] as u32)
+    head_ok(row) && put_fields(&row[6..]) && zero_from(row, 6 + row[5] as u32)
 }

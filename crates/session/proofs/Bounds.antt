@@ -1,17 +1,13 @@
 -- A call that was made, and its reply, which is short.
 use Prim.Native.Nat.{ℕ, ◌+◌, ◌*◌, ◌≤◌}
-use mathlib.Core.Path.{◌≡◌, refl, sym, ap, ap₂, ◌∙◌, subst}
-use mathlib.Core.Option.{Option, none, some}
+use mathlib.Core.Path.{◌≡◌, sym, ap₂, subst}
 use mathlib.Core.List.{List, [], ◌∷◌, ◌++◌}
 use native.Mathlib.Omega.{arith}
 use native.Mathlib.Nat.{le_trans}
-use lib.IntN.{ℤ}
 use lib.ListN.{length, length-append, length-take}
-use Rattle.rules.specs.Matching.{Pair}
-use Rattle.rules.specs.Calls.{put, Answer, done, found, nothing, refused, first_that_applies}
-use Rattle.rules.specs.Words.{Exit, exit, call, refusals}
+use Rattle.rules.specs.Calls.{Answer, done, found, nothing, refused}
+use Rattle.rules.specs.Words.{Exit, exit}
 use Rattle.rules.specs.Runs.{found_in}
-use Rattle.rules.proofs.Decided.{call_by, call-by}
 use Rattle.space.specs.Answers.{Small}
 use Rattle.numbers.specs.Numbers.{decimal}
 use Rattle.text.specs.Fields.{render_fields}
@@ -62,33 +58,6 @@ count_small done h = omega arith
 count_small (found n) h = h
 count_small nothing h = omega arith
 count_small (refused n) h = omega arith
-
--- ---- what a call's contract says, as that it was made
-
-pub made-seek : (a : Answer) (ws result : List ℕ) (x : Exit) → exit a ws result ≡ x → Made a ws result x
-made-seek a ws result x e =
-    record {
-      answer = ap (λ (y : Exit). y.answer) e;
-      left = ap (λ (y : Exit). y.space) e;
-      fields = ap (λ (y : Exit). found_in y.answer y.result) e;
-    }
-
-module _ (ws : List ℕ) (who : ℕ) (r t : Pair ℤ) (fs : List ℕ) where
-  put-unfound : (result : List ℕ) → found_in (call ws (put who r t fs)).answer result ≡ []
-  put-unfound result = rw (call-by ws (put who r t fs)) (go (first_that_applies (refusals ws (put who r t fs))))
-    where
-      go : (o : Option ℕ) → found_in (call_by o ws (put who r t fs)).answer result ≡ []
-      go (some n) = refl
-      go none = refl
-
-  pub made-put : (a : Answer) (left result : List ℕ) → exit a left [] ≡ call ws (put who r t fs) → Made a left result (call ws (put who r t fs))
-  made-put a left result e =
-      let answer : a ≡ (call ws (put who r t fs)).answer = ap (λ (y : Exit). y.answer) e in
-      record {
-        answer = answer;
-        left = ap (λ (y : Exit). y.space) e;
-        fields = ap (λ (b : Answer). found_in b result) answer ∙ put-unfound result ∙ sym (put-unfound _);
-      }
 
 -- ---- a reply that was printed, of a call that was made
 module _ (number : ℕ) (a : Answer) (ws result : List ℕ) (x : Exit) (m : Made a ws result x) where

@@ -1,5 +1,4 @@
 pub mod FoundFields
 pub mod Bounds
 pub mod Follow
-pub mod Gifts
 pub mod Claims

@@ -3,167 +3,196 @@
 
 mod replies;
 
-ghost use Rattle.std.specs.Prelude.{◌≡◌, cond, ◌<◌, ◌≤◌, length, drop};
-ghost use Rattle.rules.specs.Words.{zeros, call, opening};
-ghost use Rattle.space.specs.Answers.{meant};
+ghost use Rattle.std.specs.Prelude.{◌≡◌, ◌<◌, ◌≤◌, length, None, IfSome};
+ghost use Rattle.rules.specs.Words.{zeros, call};
 ghost use Rattle.numbers.specs.Parts.{parts};
-ghost use Rattle.session.specs.Transcript.{with_name, from_start, transcript};
-ghost use Rattle.lines.specs.Read.{name_of, meant_call, field_count, GiftUpTo};
-ghost use Rattle.session.specs.Steps.{phase_of, Ready, Gave, Made, Replied, StepIs, Turned, more_after, printed_by, Onward, Kept};
+ghost use Rattle.numbers.specs.Written.{Written};
+ghost use Rattle.session.specs.Transcript.{with_name, from_start, transcript, unreadable};
+ghost use Rattle.lines.specs.Read.{name_of, meant_call, field_count};
+ghost use Rattle.session.specs.Steps.{phase_of, calls_of, opened_space, meant_answer, Ready, Gave, Made, Replied, StepIs, Turned, more_after, Onward, Kept};
 
-use lines::{Call, Gift, Line};
+use lines::{Call, Line};
+use numbers::Out;
+use refusal::Refusal;
 use search::Op;
-use space::Answer;
 
-// T20: whether the space is open, and how many calls were made.
+// T20: whether the space is open, and then how many calls were made.
 #[derive(Clone, Copy)]
-pub struct Session {
-    pub opened: bool,
-    pub calls: u64,
+pub enum Session {
+    Giving,
+    Running(u64),
 }
 
-// T20: the line is unreadable, or the session goes on and that many bytes are printed.
+// T22, T25: the lines that are left, the number of the first, and the session before it.
 #[derive(Clone, Copy)]
-enum Step {
-    Unreadable,
-    Next(Session, usize),
-}
-
-// T22, T25: where a line begins, and its number.
-#[derive(Clone, Copy)]
-pub struct LineStart {
-    pub at: usize,
+pub struct LineStart<'a> {
+    pub lines: &'a [u8],
     pub number: u64,
+    pub session: Session,
 }
 
-// T25: the input is done with, or the next line begins there; that many bytes are printed.
+// T25: how many bytes are to be printed, and where the session goes on; without that the input is done with.
 #[derive(Clone, Copy)]
-pub enum Turn {
-    Stop(usize),
-    Go(LineStart, Session, usize),
+pub struct Turn<'a> {
+    pub printed: usize,
+    pub next: Option<LineStart<'a>>,
+}
+
+// C5: what a call that isn't refused answers.
+#[derive(Clone, Copy)]
+enum Answer {
+    Done,
+    Found(usize),
+    Nothing,
 }
 
 // T24: the first line.
-pub fn begin(input: &[u8], out: &mut [u8]) -> Turn
+pub fn begin<'a>(input: &'a [u8], out: &mut [u8]) -> Turn<'a>
     requires { 256 ≤ length out.old }
-    ensures turned { Turned (from_start (parts 10 input.now)) out.old out.new (printed_by result) (more_after result input.now (zeros 16) (zeros 1809)) }
-    ensures onward { Onward result 0 1 0 input.now (zeros 16) (zeros 1809) }
+    ensures turned { Turned (from_start (parts 10 input.now)) out.old out.new result.printed (more_after result.next (zeros 16) (zeros 1809)) }
+    ensures onward { Onward result.next input.now 1 0 (zeros 1809) }
 {
-    let end = numbers::part_end(input, 0, 10);
-    if end == input.len() {
-        return Turn::Stop(replies::render_unreadable(1, out));
-    }
-    if !numbers::same(&input[..end], b"call party rpart rkey tpart tkey fields") {
-        return Turn::Stop(replies::render_unreadable(1, out));
-    }
-    let k = numbers::place(b"line answer fields\n", out, 0);
-    Turn::Go(
-        LineStart {
-            at: end + 1,
+    let names = b"call party rpart rkey tpart tkey fields";
+    let Some(lines) = numbers::lines_start(input, input.len(), names) else {
+        return stop(1, out);
+    };
+    let mut out = Out { bytes: out, at: 0 };
+    out.place(b"line answer fields\n");
+    Turn {
+        printed: out.at,
+        next: Some(LineStart {
+            lines,
             number: 2,
-        },
-        Session {
-            opened: false,
-            calls: 0,
-        },
-        k,
-    )
+            session: Session::Giving,
+        }),
+    }
 }
 
 // T25: the line that begins there.
-pub fn take_turn(
-    s: Session,
-    input: &[u8],
-    from: LineStart,
-    roster: &mut [u64],
-    space: &mut [u64],
+#[tactic(auto, using(crate::proofs::Follow::ended, numbers::proofs::Placing::written_none))]
+pub fn take_turn<'a>(
+    from: LineStart<'a>,
+    roster: &mut [u64; 16],
+    space: &mut [u64; 1809],
     out: &mut [u8],
-) -> Turn
-    requires { (from.at ≤ length input.now) × (from.number < 1000000) × (s.calls < 1000000) × Ready s roster.old space.old × (256 ≤ length out.old) }
-    ensures turned { Turned (transcript (phase_of s roster.old space.old) from.number (parts 10 (drop from.at input.now))) out.old out.new (printed_by result) (more_after result input.now roster.new space.new) }
-    ensures onward { Onward result from.at from.number s.calls input.now roster.new space.new }
-    ensures kept { Kept result roster.old roster.new space.old space.new }
+) -> Turn<'a>
+    requires { (from.number < 1000000) × (calls_of from.session < 1000000) × Ready from.session space.old × (256 ≤ length out.old) }
+    ensures turned { Turned (transcript (phase_of from.entry.session roster.old space.old) from.entry.number (parts 10 from.entry.lines.now)) out.old out.new result.printed (more_after result.next roster.new space.new) }
+    ensures onward { Onward result.next from.entry.lines.now from.entry.number (calls_of from.entry.session) space.new }
+    ensures kept { Kept result.next roster.old roster.new space.old space.new }
 {
-    let at = from.at;
     let number = from.number;
-    let end = numbers::part_end(input, at, 10);
-    if end == input.len() {
-        if end == at {
-            return Turn::Stop(0);
+    let Some((line, lines)) = numbers::split_once(from.lines, b'\n') else {
+        if from.lines.is_empty() {
+            return Turn {
+                printed: 0,
+                next: None,
+            };
         }
-        return Turn::Stop(replies::render_unreadable(number, out));
-    }
-    let Step::Next(next, k) = step_line(s, &input[at..end], roster, space, out) else {
-        return Turn::Stop(replies::render_unreadable(number, out));
+        return stop(number, out);
     };
-    let start = LineStart {
-        at: end + 1,
+    let Some((session, printed)) = step_line(from.session, line, roster, space, out) else {
+        return stop(number, out);
+    };
+    let next = Some(LineStart {
+        lines,
         number: number + 1,
-    };
-    Turn::Go(start, next, k)
+        session,
+    });
+    Turn { printed, next }
 }
 
-// T20
-fn step_line(s: Session, line: &[u8], roster: &mut [u64], space: &mut [u64], out: &mut [u8]) -> Step
-    requires { (s.calls < 1000000) × Ready s roster.old space.old × (256 ≤ length out.old) }
+// T22: the line is reported as unreadable, and the input is done with.
+fn stop<'a>(number: u64, out: &mut [u8]) -> Turn<'a>
+    requires { (number ≤ 1000000) × (256 ≤ length out.old) }
+    ensures printed { Written out.old 0 (unreadable number) out.new result.printed }
+    ensures last { result.next ≡ None }
+{
+    Turn {
+        printed: replies::render_unreadable(number, out),
+        next: None,
+    }
+}
+
+// T20: none, where the line is unreadable; else how the session goes on, and how many bytes are printed.
+fn step_line(
+    s: Session,
+    line: &[u8],
+    roster: &mut [u64; 16],
+    space: &mut [u64; 1809],
+    out: &mut [u8],
+) -> Option<(Session, usize)>
+    requires { (calls_of s < 1000000) × Ready s space.old × (256 ≤ length out.old) }
     ensures { StepIs result s line.now roster.old roster.new space.old space.new out.old out.new }
 {
-    let number = s.calls + 1;
-    let next = Session {
-        opened: true,
-        calls: number,
-    };
     let mut words = [0u64; 16];
-    let read = lines::read_line(line, &mut words);
+    let read = lines::read_line(line, &mut words)?;
     match read {
-        Line::Unreadable => Step::Unreadable,
-        Line::Give(party, partition, key) => give(s, party as usize, partition, key, roster),
+        Line::Give {
+            party,
+            partition,
+            key,
+        } => give(s, party as usize, partition, key, roster),
         Line::Ask(asked) => {
-            open_first(s, roster, space);
+            let number = open_first(s, roster, space) + 1;
             let k = reply(space, number, asked, &words, out);
-            Step::Next(next, k)
+            Some((Session::Running(number), k))
         }
     }
 }
 
 // T20, T12: a gift comes too late once the space is open.
-fn give(s: Session, party: usize, partition: Gift, key: Gift, roster: &mut [u64]) -> Step
-    requires { (length roster.old ≡ 16) × (party ≤ 7) × GiftUpTo 63 partition × GiftUpTo 62 key }
+fn give(
+    s: Session,
+    party: usize,
+    partition: Option<u64>,
+    key: Option<u64>,
+    roster: &mut [u64; 16],
+) -> Option<(Session, usize)>
+    requires { (party ≤ 7) × IfSome partition (λ c. c ≤ 63) × IfSome key (λ c. c ≤ 62) }
     ensures { Gave result s party (name_of partition) (name_of key) roster.old roster.new }
 {
-    let opened = s.opened;
-    if opened {
-        return Step::Unreadable;
-    }
+    let Session::Giving = s else {
+        return None;
+    };
     add_name(roster, party, partition);
     add_name(roster, 8 + party, key);
-    Step::Next(s, 0)
+    Some((s, 0))
 }
 
 // T12
-fn add_name(roster: &mut [u64], at: usize, gift: Gift)
-    requires { (at < length roster.old) × GiftUpTo 63 gift }
-    ensures { roster.new ≡ with_name at (name_of gift) roster.old }
+fn add_name(roster: &mut [u64; 16], at: usize, name: Option<u64>)
+    requires { (at < 16) × IfSome name (λ c. c ≤ 63) }
+    ensures { roster.new ≡ with_name at (name_of name) roster.old }
 {
-    match gift {
-        Gift::Missing => {}
-        Gift::Name(c) => words::set_bit(roster, at, c),
+    if let Some(c) = name {
+        words::set_bit(roster, at, c);
     }
 }
 
-// T20: the first call opens the space.
-fn open_first(s: Session, roster: &[u64], space: &mut [u64])
-    ensures { space.new ≡ cond s.opened space.old (opening space.old roster.now).space }
+// T20: the first call opens the space. The answer is how many calls were made before.
+fn open_first(s: Session, roster: &[u64; 16], space: &mut [u64; 1809]) -> u64
+    ensures space_after { space.new ≡ opened_space s roster.now space.old }
+    ensures value { result ≡ calls_of s }
 {
-    let opened = s.opened;
-    if !opened {
-        space::open(space, roster);
+    match s {
+        Session::Giving => {
+            let _ = space::open(space, roster);
+            0
+        }
+        Session::Running(calls) => calls,
     }
 }
 
 // T21: the call is made, and its reply printed.
-fn reply(space: &mut [u64], number: u64, asked: Call, words: &[u64], out: &mut [u8]) -> usize
-    requires { (number ≤ 1000000) × (field_count asked ≤ length words.now) × (256 ≤ length out.old) }
+fn reply(
+    space: &mut [u64; 1809],
+    number: u64,
+    asked: Call,
+    words: &[u64; 16],
+    out: &mut [u8],
+) -> usize
+    requires { (number ≤ 1000000) × (field_count asked ≤ 16) × (256 ≤ length out.old) }
     ensures { Replied number (call space.old (meant_call asked words.now)) space.new out.old out.new result }
 {
     let mut result = [0u64; 8];
@@ -172,31 +201,38 @@ fn reply(space: &mut [u64], number: u64, asked: Call, words: &[u64], out: &mut [
 }
 
 // C2 to C4, C8
-fn make(space: &mut [u64], asked: Call, words: &[u64], res: &mut [u64]) -> Answer
-    requires { (field_count asked ≤ length words.now) × (res.old ≡ zeros 8) }
-    ensures { Made (meant result) space.new res.new (call space.old (meant_call asked words.now)) }
+fn make(
+    space: &mut [u64; 1809],
+    asked: Call,
+    words: &[u64; 16],
+    res: &mut [u64; 8],
+) -> Result<Answer, Refusal>
+    requires { (field_count asked ≤ 16) × (res.old ≡ zeros 8) }
+    ensures { Made (meant_answer result) space.new res.new (call space.old (meant_call asked words.now)) }
 {
-    match asked {
-        Call::Put(party, rparts, rkey, tparts, tkey, n) => {
-            space::put(space, party, rparts, rkey, tparts, tkey, &words[..n])
+    let found = match asked {
+        Call::Put {
+            party,
+            read,
+            take,
+            count,
+        } => {
+            space::put(space, party, read, take, &words[..count])?;
+            return Ok(Answer::Done);
         }
-        Call::Seek(op, party, partitions, key, n) => {
-            let fields = &words[..n];
+        Call::Seek {
+            op,
+            party,
+            pair,
+            count,
+        } => {
+            let fields = &words[..count];
             match op {
-                Op::Looking => space::look(space, party, partitions, key, fields, res),
-                Op::Receiving => space::receive(space, party, partitions, key, fields, res),
-                Op::Taking => space::take(space, party, partitions, key, fields, res),
+                Op::Looking => space::look(space, party, pair, fields, res)?,
+                Op::Receiving => space::receive(space, party, pair, fields, res)?,
+                Op::Taking => space::take(space, party, pair, fields, res)?,
             }
         }
-    }
-}
-
-// T22, T25: how many bytes are to be printed.
-pub fn printed(t: Turn) -> usize
-    ensures { result ≡ printed_by t }
-{
-    match t {
-        Turn::Stop(k) => k,
-        Turn::Go(_, _, k) => k,
-    }
+    };
+    Ok(found.map_or(Answer::Nothing, Answer::Found))
 }

@@ -1,53 +1,62 @@
 // Rendering what the console prints.
 ghost use Rattle.std.specs.Prelude.{[], ◌≡◌, ◌+◌, ◌≤◌, length};
 ghost use Rattle.rules.specs.Words.{exit};
-ghost use Rattle.space.specs.Answers.{meant};
 ghost use Rattle.numbers.specs.Written.{Written};
 ghost use Rattle.session.specs.Transcript.{answer_text, reply_text, unreadable};
-ghost use Rattle.session.specs.Steps.{count_of};
+ghost use Rattle.session.specs.Steps.{count_of, meant_answer};
 
-use space::Answer;
+use crate::Answer;
+use numbers::Out;
+use refusal::Refusal;
 
 // G8: how many fields were found.
-fn found(answer: Answer) -> usize
-    ensures { result ≡ count_of (meant answer) }
+fn found(answer: Result<Answer, Refusal>) -> usize
+    ensures { result ≡ count_of (meant_answer answer) }
 {
     match answer {
-        Answer::Done => 0,
-        Answer::Found(n) => n,
-        Answer::None => 0,
-        Answer::Refused(_) => 0,
+        Ok(Answer::Found(n)) => n,
+        _ => 0,
     }
 }
 
 // T21
-fn render_answer(answer: Answer, out: &mut [u8], at: usize) -> usize
-    requires { at + length (answer_text (meant answer)) ≤ length out.old }
-    ensures { Written out.old at (answer_text (meant answer)) out.new result }
+#[tactic(auto, unfolding(crate::specs::Transcript::answer_text))]
+fn render_answer(answer: Result<Answer, Refusal>, out: &mut Out<'_>)
+    requires { out.old.at + length (answer_text (meant_answer answer)) ≤ length out.old.bytes.now }
+    ensures written { Written out.old.bytes.now out.old.at (answer_text (meant_answer answer)) out.new.bytes.now out.new.at }
+    ensures len { length out.new.bytes.now ≡ length out.old.bytes.now }
+    ensures same_reference { out.new.bytes.ghost_name ≡ out.old.bytes.ghost_name }
 {
     match answer {
-        Answer::Done => numbers::place(b"done", out, at),
-        Answer::Found(_) => numbers::place(b"found", out, at),
-        Answer::None => numbers::place(b"none", out, at),
-        Answer::Refused(number) => {
-            let end = numbers::place(b"no", out, at);
-            numbers::render_decimal(number as u64, out, end)
+        Ok(Answer::Done) => out.place(b"done"),
+        Ok(Answer::Found(_)) => out.place(b"found"),
+        Ok(Answer::Nothing) => out.place(b"none"),
+        Err(refusal) => {
+            out.place(b"no");
+            out.decimal(refusal.number() as u64);
         }
     }
 }
 
 // T21
-pub fn render_reply(number: u64, answer: Answer, res: &[u64], out: &mut [u8]) -> usize
-    requires { (count_of (meant answer) ≤ length res.now) × (length (reply_text number (exit (meant answer) [] res.now)) ≤ length out.old) }
-    ensures { Written out.old 0 (reply_text number (exit (meant answer) [] res.now)) out.new result }
+pub fn render_reply(
+    number: u64,
+    answer: Result<Answer, Refusal>,
+    res: &[u64; 8],
+    out: &mut [u8],
+) -> usize
+    requires { (count_of (meant_answer answer) ≤ 8) × (length (reply_text number (exit (meant_answer answer) [] res.now)) ≤ length out.old) }
+    ensures { Written out.old 0 (reply_text number (exit (meant_answer answer) [] res.now)) out.new result }
 {
-    let a = numbers::render_decimal(number, out, 0);
-    let b = numbers::place(b" ", out, a);
-    let c = render_answer(answer, out, b);
-    let d = numbers::place(b" ", out, c);
+    let mut out = Out { bytes: out, at: 0 };
+    out.decimal(number);
+    out.place(b" ");
+    render_answer(answer, &mut out);
+    out.place(b" ");
     let n = found(answer);
-    let e = text::render_fields(&res[..n], out, d);
-    numbers::place(b"\n", out, e)
+    text::render_fields(&res[..n], &mut out);
+    out.place(b"\n");
+    out.at
 }
 
 // T22
@@ -55,7 +64,9 @@ pub fn render_unreadable(number: u64, out: &mut [u8]) -> usize
     requires { length (unreadable number) ≤ length out.old }
     ensures { Written out.old 0 (unreadable number) out.new result }
 {
-    let a = numbers::place(b"line ", out, 0);
-    let b = numbers::render_decimal(number, out, a);
-    numbers::place(b" unreadable\n", out, b)
+    let mut out = Out { bytes: out, at: 0 };
+    out.place(b"line ");
+    out.decimal(number);
+    out.place(b" unreadable\n");
+    out.at
 }

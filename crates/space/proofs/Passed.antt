@@ -1,7 +1,7 @@
 -- What a call has passed once no test turns it away.
 use Prim.Native.Nat.{ℕ, ◌≤◌, ◌<◌}
-use mathlib.Core.Path.{◌≡◌}
-use mathlib.Core.Bool.{true, false, not, ◌||◌}
+use mathlib.Core.Path.{◌≡◌, refl, sym, ap}
+use mathlib.Core.Bool.{Bool, true, false, not, ◌||◌}
 use mathlib.Core.Option.{none}
 use mathlib.Core.List.{List, ◌∷◌}
 use native.Mathlib.Omega.{arith}
@@ -9,6 +9,9 @@ use borrow.Author.Tests.{ltb-false}
 use lib.Dec.{eqb, ltb}
 use lib.IntN.{ℤ}
 use lib.ListN.{length, get_or}
+use Rattle.std.specs.Prelude.{Result, Ok, Err}
+use Rattle.refusals.specs.Admissions.{admitted_by}
+use Rattle.refusals.proofs.Tables.{same_Ok, same_Err, ok-err}
 use Rattle.rules.specs.Names.{key_in_range}
 use Rattle.rules.specs.Partitions.{sets}
 use Rattle.rules.specs.Matching.{Pair}
@@ -67,3 +70,12 @@ put-passed ws who r t fs e =
       take_range = pair-in-range t (or_right (bad_pair sets r) (bad_pair sets t) p.1.1.0);
       room = omega (arith, decode-len ws);
     }
+
+-- an admission, back to its verdict
+pub admitted-refused : (v : Result (Unit {0}) ℕ) (p : Bool) (n : ℕ) → Err n ≡ admitted_by v p → Err n ≡ v
+admitted-refused (Err k) p n e = ap (λ (j : ℕ). Err j) (same_Err n k e)
+admitted-refused (Ok u) p n e = absurd (ok-err (not p) n (sym e))
+
+pub admitted-passed : (v : Result (Unit {0}) ℕ) (p b : Bool) → Ok b ≡ admitted_by v p → (Ok tt ≡ v) × (b ≡ not p)
+admitted-passed (Err k) p b e = absurd (ok-err b k e)
+admitted-passed (Ok u) p b e = (refl, same_Ok b (not p) e)

@@ -1,24 +1,22 @@
 -- What a look, receive or take comes to: refused, none, or the oldest match with its fields.
-use Prim.Native.Nat.{ℕ, zero, suc, ◌+◌, ◌-◌, ◌*◌, ◌≤◌, ◌<◌}
+use Prim.Native.Nat.{ℕ, zero, suc, ◌+◌, ◌*◌, ◌<◌}
 use mathlib.Core.Path.{◌≡◌, refl, sym, ap, ap₂, ◌∙◌}
-use mathlib.Core.Logic.{◌⊎◌, inl, inr}
 use mathlib.Core.Bool.{true, not}
-use mathlib.Core.Option.{Option, none, some}
+use mathlib.Core.Option as rule
 use mathlib.Core.List.{List, [], ◌∷◌, ◌++◌}
-use native.Mathlib.Nat.{add-sub_cancel_left}
 use native.Mathlib.Omega.{arith}
 use borrow.Author.Tests.{eqb-true}
-use denote.Enum.Declared.{tag_of}
-use types.Run.{OneOf}
 use lib.Dec.{eqb}
 use lib.IntN.{ℤ}
-use lib.ListN.{length, get_or, take, drop, length-take, length-drop}
-use lib.Seq.{drop-drop, take_at}
+use lib.ListN.{length, get_or, take, drop}
+use lib.Seq.{drop-drop}
+use Rattle.std.specs.Prelude.{Option, Some, None, Result, Ok, Err}
+use Rattle.std.specs.Option.{option_and}
 use Rattle.rules.specs.Lists.{first}
 use Rattle.rules.specs.Names.{Name, partition, key}
 use Rattle.rules.specs.Partitions.{sets}
 use Rattle.rules.specs.Fields.{names_in}
-use Rattle.rules.specs.Matching.{Pair, pair, stored_pair, Entry, Op, looking, receiving, taking, matches}
+use Rattle.rules.specs.Matching.{Pair, stored_pair, Entry, Op, looking, receiving, taking, matches}
 use Rattle.rules.specs.State.{State, give, give_all, with_entries}
 use Rattle.rules.specs.Calls.{seek, Answer, found, nothing, Table, first_that_applies, seek_table, remaining, gained}
 use Rattle.rules.specs.Words.{row_start, encode, entry_at, decode, sound, Exit, exit, call, refusals}
@@ -32,14 +30,9 @@ use Rattle.rules.proofs.Edits.{entry-at}
 use Rattle.rules.proofs.WordRuns.{back}
 use Rattle.rules.proofs.Decided.{call-by, passes-call, passes-sound}
 use Rattle.search.specs.Place.{place}
-use Rattle.search.specs.declared.Found as search
-use Rattle.search.specs.declared.Found.TheVariants as search-found
 use Rattle.search.proofs.Places.{PlaceFound, place_found, place_none}
-use Rattle.space.specs.Answers.{answered, at_place, sought_by, sought_in, fields_at, written, granted}
+use Rattle.space.specs.Answers.{found_meant, answered, sought_by, sought_in, fields_at, written, granted}
 use Rattle.space.proofs.Passed.{SeekPassed, seek-passed}
-use Rattle.space.specs.declared.Sought.{Sought}
-use Rattle.space.specs.contracts.Sought.{the_type}
-use Rattle.space.specs.declared.Sought.TheVariants.{At, Nothing, Refused}
 
 take_own : (k : ℕ) (l : List ℕ) → take (length (take k l)) l ≡ take k l
 take_own zero l = refl
@@ -51,51 +44,14 @@ module _ (ws : List ℕ) (op : Op) (who : ℕ) (p : Pair ℤ) (t : List ℕ) (ro
   abbrev Whole : Table
   Whole = (not (sound ws), 1) ∷ seek_table sets (decode ws) who p t room
 
-  pub sought-refused : (n : ℕ) → first_that_applies Whole ≡ some n → Refused n ≡ sought_in ws op who p t room
+  pub sought-refused : (n : ℕ) → first_that_applies Whole ≡ rule.some n → Err n ≡ sought_in ws op who p t room
   unfolding sought_in
   sought-refused n e = rw e refl
 
-  pub sought-placed : first_that_applies Whole ≡ none → (f : search.Found) → f ≡ place (matches sets op (stored_pair p) t) (decode ws).entries
-      → at_place f ≡ sought_in ws op who p t room
+  pub sought-placed : first_that_applies Whole ≡ rule.none → (f : Option ℕ) → f ≡ place (matches sets op (stored_pair p) t) (decode ws).entries
+      → Ok f ≡ sought_in ws op who p t room
   unfolding sought_in
-  sought-placed e f q = rw e (ap at_place q)
-
--- a key that was passed on is the key
-pub sought-key : (s : Sought) (ws : List ℕ) (op : Op) (who c : ℕ) (k k' : ℤ) (t : List ℕ) (room : ℕ) → k ≡ k'
-    → s ≡ sought_in ws op who (pair c k) t room → s ≡ sought_in ws op who (pair c k') t room
-sought-key s ws op who c k k' t room q e = e ∙ ap (λ (j : ℤ). sought_in ws op who (pair c j) t room) q
-
--- the fields that were copied to the result, from the row's start + 6 on
-pub copied : (ws result last : List ℕ) (r k : ℕ) {at : ℕ} → at ≡ row_start r + 6 → at + k ≤ length ws
-    → last ≡ take (at + k - at) (drop at ws) ++ drop (length (take (at + k - at) (drop at ws))) result → last ≡ fields_at r k ws ++ drop k result
-copied ws result last r k {at} here l h =
-    let n : length (take k (drop at ws)) ≡ k = simp (length-take, length-drop) (omega arith) in
-    h ∙ rw (add-sub_cancel_left, n) (ap (λ (j : ℕ). take k (drop j ws) ++ drop k result) here)
-
--- no entry was found: the tags are those of the cases besides At
-abbrev pub Unfound : Sought → Type 0
-Unfound s = OneOf (1 ∷ 2 ∷ []) (tag_of the_type s)
-
-not_at : {A : Type 0} → ◌⊎◌ (◌≡◌ {A = ℕ} 0 1) (◌≡◌ {A = ℕ} 0 2) → A
-not_at (inl q) = absurd (omega arith)
-not_at (inr q) = absurd (omega arith)
-
-pub unfound : (s : Sought) → ((r : ℕ) → s ≡ At r → ⊥) → Unfound s
-unfound (At r) other = absurd (other r refl)
-unfound Nothing other = inl refl
-unfound (Refused n) other = inr refl
-
-pub unfound-granted : (s : Sought) (who n : ℕ) (ws : List ℕ) → Unfound s → ws ≡ granted s who n ws
-unfound-granted (At r) who n ws k = not_at k
-unfound-granted Nothing who n ws k = refl
-unfound-granted (Refused m) who n ws k = refl
-
--- the names in the result's first words are those in the fields that were copied there
-pub granted-at : (ws result left last : List ℕ) (who r n : ℕ) → length ws ≡ 1809 → r < 128 → n ≤ 8 → last ≡ fields_at r n ws ++ drop n result
-    → left ≡ encode (give_all who (names_in (take n last)) (decode ws)) → left ≡ granted (At r) who n ws
-granted-at ws result left last who r n l low few h g =
-    let front : take n last ≡ fields_at r n ws = rw h (take_at (fields_at r n ws) (drop n result) n (simp (length-take, length-drop) (omega arith))) in
-    g ∙ ap (λ (fs : List ℕ). encode (give_all who (names_in fs) (decode ws))) front
+  sought-placed e f q = rw e (ap (λ (f : Option ℕ). Ok f) q)
 
 module _ (ws : List ℕ) (op : Op) (who : ℕ) (p : Pair ℤ) (t result : List ℕ) where
   record Hit (r : ℕ) : Type 0 where
@@ -103,50 +59,50 @@ module _ (ws : List ℕ) (op : Op) (who : ℕ) (p : Pair ℤ) (t result : List �
     pub place : PlaceFound (matches sets op (stored_pair p) t) (decode ws).entries r
 
   -- the answer and the result by what was sought, with the words that the space has then
-  abbrev ended : Sought → List ℕ → Exit
+  abbrev ended : Result (Option ℕ) ℕ → List ℕ → Exit
   ended s left = exit (answered s (length t)) left (written s (length t) ws result)
 
   -- an answer and a result that are those
-  pub ending : (s : Sought) (x : Answer) (left last : List ℕ) → x ≡ answered s (length t) → last ≡ written s (length t) ws result
+  pub ending : (s : Result (Option ℕ) ℕ) (x : Answer) (left last : List ℕ) → x ≡ answered s (length t) → last ≡ written s (length t) ws result
       → exit x left last ≡ ended s left
   ending s x left last = ap₂ (λ (x : Answer) (last : List ℕ). exit x left last)
 
   -- the same where the party gains the names found, before an entry is removed
-  abbrev obtained : Sought → Exit
+  abbrev obtained : Result (Option ℕ) ℕ → Exit
   obtained s = ended s (granted s who (length t) ws)
 
-  pub obtaining : (s : Sought) (x : Answer) (left last : List ℕ) → x ≡ answered s (length t) → left ≡ granted s who (length t) ws
+  pub obtaining : (s : Result (Option ℕ) ℕ) (x : Answer) (left last : List ℕ) → x ≡ answered s (length t) → left ≡ granted s who (length t) ws
       → last ≡ written s (length t) ws result → exit x left last ≡ obtained s
   obtaining s x left last a g w = ending s x left last a w ∙ ap (ended s) g
 
   -- by what was sought: the whole call where no entry was found, or what is known of the one found
-  abbrev Came : Sought → Type 0
-  Came (At r) = Hit r
-  Came Nothing = ended Nothing ws ≡ call ws (seek op who p t result)
-  Came (Refused n) = ended (Refused n) ws ≡ call ws (seek op who p t result)
+  abbrev Came : Result (Option ℕ) ℕ → Type 0
+  Came (Ok (Some r)) = Hit r
+  Came (Ok None) = ended (Ok None) ws ≡ call ws (seek op who p t result)
+  Came (Err n) = ended (Err n) ws ≡ call ws (seek op who p t result)
 
-  none_came : Passes ws (seek op who p t result) → first (matches sets op (stored_pair p) t) (decode ws).entries ≡ none
+  none_came : Passes ws (seek op who p t result) → first (matches sets op (stored_pair p) t) (decode ws).entries ≡ rule.none
       → call ws (seek op who p t result) ≡ exit nothing ws result
   none_came e f =
       passes-call ws (seek op who p t result) e
       ∙ rw (f, encode-decode ws (passes-sound ws (seek op who p t result) e)) refl
 
-  came-by : (o : Option ℕ) → first_that_applies (refusals ws (seek op who p t result)) ≡ o
-      → (f : search.Found) → place (matches sets op (stored_pair p) t) (decode ws).entries ≡ f → Came (sought_by o f)
-  came-by (some n) e f q = sym (call-by ws (seek op who p t result) ∙ rw e refl)
-  came-by none e (search-found.At r) q = record { passes = e; place = place_found (matches sets op (stored_pair p) t) (decode ws).entries r q }
-  came-by none e search-found.Nothing q = sym (none_came e (place_none (matches sets op (stored_pair p) t) (decode ws).entries q))
+  came-by : (o : rule.Option ℕ) → first_that_applies (refusals ws (seek op who p t result)) ≡ o
+      → (f : Option ℕ) → place (matches sets op (stored_pair p) t) (decode ws).entries ≡ f → Came (sought_by o f)
+  came-by (rule.some n) e f q = sym (call-by ws (seek op who p t result) ∙ rw e refl)
+  came-by rule.none e (Some r) q = record { passes = e; place = place_found (matches sets op (stored_pair p) t) (decode ws).entries r q }
+  came-by rule.none e None q = sym (none_came e (place_none (matches sets op (stored_pair p) t) (decode ws).entries q))
 
-  came : (s : Sought) → s ≡ sought_in ws op who p t (length result) → Came s
+  came : (s : Result (Option ℕ) ℕ) → s ≡ sought_in ws op who p t (length result) → Came s
   unfolding sought_in
   came s e = rw e (came-by (first_that_applies (refusals ws (seek op who p t result))) refl (place (matches sets op (stored_pair p) t) (decode ws).entries) refl)
 
   -- no entry found
-  pub unfound-call : (s : Sought) → s ≡ sought_in ws op who p t (length result) → Unfound s
-      → obtained s ≡ call ws (seek op who p t result)
-  unfound-call (At r) e k = not_at k
-  unfound-call Nothing e k = came Nothing e
-  unfound-call (Refused n) e k = came (Refused n) e
+  pub none-call : Ok None ≡ sought_in ws op who p t (length result) → obtained (Ok None) ≡ call ws (seek op who p t result)
+  none-call e = came (Ok None) e
+
+  pub refused-call : (n : ℕ) → Err n ≡ sought_in ws op who p t (length result) → obtained (Err n) ≡ call ws (seek op who p t result)
+  refused-call n e = came (Err n) e
 
   -- the entry found, in row r
   module _ (r : ℕ) (h : Hit r) where
@@ -179,36 +135,36 @@ module _ (ws : List ℕ) (op : Op) (who : ℕ) (p : Pair ℤ) (t result : List �
         (h.place.entry.fields ++ drop (length t) result)
     hit-call = passes-call ws (seek op who p t result) h.passes ∙ rw (h.place.found, ← count-is) refl
 
-  module _ (r : ℕ) (e : At r ≡ sought_in ws op who p t (length result)) where
+  module _ (r : ℕ) (e : Ok (Some r) ≡ sought_in ws op who p t (length result)) where
     -- the row found is one of the 128
     pub found-low : r < 128
-    found-low = let h = came (At r) e in omega (arith, below r h, (sound-facts ws (passes-sound ws (seek op who p t result) h.passes)).count)
+    found-low = let h = came (Ok (Some r)) e in omega (arith, below r h, (sound-facts ws (passes-sound ws (seek op who p t result) h.passes)).count)
 
     -- a call that finds has passed its tests
     pub found_passed : SeekPassed ws who p t (length result)
-    found_passed = seek-passed ws who p t (length result) (came (At r) e).passes
+    found_passed = seek-passed ws who p t (length result) (came (Ok (Some r)) e).passes
 
 module _ (ws : List ℕ) (who : ℕ) (p : Pair ℤ) (t result : List ℕ) where
   -- a look ends with the search
-  pub look-call : (s : Sought) → s ≡ sought_in ws looking who p t (length result)
+  pub look-call : (s : Result (Option ℕ) ℕ) → s ≡ sought_in ws looking who p t (length result)
       → ended ws looking who p t result s ws ≡ call ws (seek looking who p t result)
-  look-call (At r) e =
-      let h = came ws looking who p t result (At r) e in
+  look-call (Ok (Some r)) e =
+      let h = came ws looking who p t result (Ok (Some r)) e in
       rw (fields-are ws looking who p t result r h)
       (ap (λ (left : List ℕ). exit (found (length t)) left (h.place.entry.fields ++ drop (length t) result))
       (sym (encode-decode ws (passes-sound ws (seek looking who p t result) h.passes)))
       ∙ sym (hit-call ws looking who p t result r h))
-  look-call Nothing e = came ws looking who p t result Nothing e
-  look-call (Refused n) e = came ws looking who p t result (Refused n) e
+  look-call (Ok None) e = came ws looking who p t result (Ok None) e
+  look-call (Err n) e = came ws looking who p t result (Err n) e
 
   -- a receive ends with the names gained
-  pub receive-call : (s : Sought) → s ≡ sought_in ws receiving who p t (length result)
+  pub receive-call : (s : Result (Option ℕ) ℕ) → s ≡ sought_in ws receiving who p t (length result)
       → obtained ws receiving who p t result s ≡ call ws (seek receiving who p t result)
-  receive-call (At r) e =
-      let h = came ws receiving who p t result (At r) e in
+  receive-call (Ok (Some r)) e =
+      let h = came ws receiving who p t result (Ok (Some r)) e in
       rw (fields-are ws receiving who p t result r h) (sym (hit-call ws receiving who p t result r h))
-  receive-call Nothing e = came ws receiving who p t result Nothing e
-  receive-call (Refused n) e = came ws receiving who p t result (Refused n) e
+  receive-call (Ok None) e = came ws receiving who p t result (Ok None) e
+  receive-call (Err n) e = came ws receiving who p t result (Err n) e
 
 -- the entries changed after a gift of names, or before it
 give-with : (who : ℕ) (n : Name) (es : List Entry) (s : State) → with_entries es (give who n s) ≡ give who n (with_entries es s)
@@ -220,6 +176,11 @@ give_all-with : (who : ℕ) (ns : List Name) (es : List Entry) (s : State) → w
 give_all-with who [] es s = refl
 give_all-with who (n ∷ ns) es s = give_all-with who ns es (give who n s) ∙ ap (give_all who ns) (give-with who n es s)
 
+-- the count of the fields, where an entry was found
+pub counted : (o : Option ℕ) (n : ℕ) → found_meant (Ok (option_and o (Some n))) ≡ answered (Ok o) n
+counted None n = refl
+counted (Some x) n = refl
+
 -- a take: the row found is removed from the words in which the names are gained
 module _ (ws : List ℕ) (who : ℕ) (p : Pair ℤ) (t result : List ℕ) where
   pub record Removable (r : ℕ) (left last : List ℕ) : Type 0 where
@@ -229,9 +190,9 @@ module _ (ws : List ℕ) (who : ℕ) (p : Pair ℤ) (t result : List ℕ) where
         exit (found (length t)) (encode (with_entries (take r (decode left).entries ++ drop (suc r) (decode left).entries) (decode left))) last
         ≡ call ws (seek taking who p t result)
 
-  pub removable : (s : Sought) (r : ℕ) (left last : List ℕ) → s ≡ sought_in ws taking who p t (length result)
-      → left ≡ granted s who (length t) ws → last ≡ written s (length t) ws result → s ≡ At r → Removable r left last
-  removable s r left last e g w q = rw (g, w, q) (go (came ws taking who p t result (At r) (sym q ∙ e)))
+  pub removable : (r : ℕ) (left last : List ℕ) → Ok (Some r) ≡ sought_in ws taking who p t (length result)
+      → left ≡ granted (Ok (Some r)) who (length t) ws → last ≡ written (Ok (Some r)) (length t) ws result → Removable r left last
+  removable r left last e g w = rw (g, w) (go (came ws taking who p t result (Ok (Some r)) e))
     where
       names : List Name
       names = names_in (fields_at r (length t) ws)

@@ -1,134 +1,100 @@
 // The five calls of the space: open, put, look, receive and take.
 #![tactic(auto)]
 
-ghost use Rattle.std.specs.Prelude.{◌≡◌, [], ◌++◌, ◌<◌, ◌≤◌, length, drop};
-ghost use Rattle.rules.specs.Matching.{pair, looking, receiving, taking};
+ghost use Rattle.std.specs.Prelude.{◌≡◌, true, [], ◌++◌, ◌<◌, ◌≤◌, length, drop};
+ghost use Rattle.rules.specs.Names.{key_in_range, co_key, stored};
+ghost use Rattle.rules.specs.Matching.{looking, receiving, taking};
 ghost use Rattle.rules.specs.Calls.{put, seek};
 ghost use Rattle.rules.specs.Words.{exit, call, opening};
+ghost use Rattle.refusal.specs.Numbers.{numbered};
+ghost use Rattle.words.specs.Pairs.{meant};
 ghost use Rattle.search.specs.Place as place;
-ghost use Rattle.space.specs.Answers.{meant, answered, sought_in, fields_at, written, granted};
+ghost use Rattle.space.specs.Answers.{done_meant, found_meant, sought_in, fields_at, written, granted};
 
-use held::Verdict;
-use refusals::Admission;
-use search::{Found, Op};
-
-// C5: what a call answers.
-#[derive(Clone, Copy)]
-pub enum Answer {
-    Done,
-    Found(usize),
-    None,
-    Refused(u32),
-}
-
-// What a look, receive or take finds: the place of the oldest match, none, or a refusal.
-#[derive(Clone, Copy)]
-enum Sought {
-    At(usize),
-    Nothing,
-    Refused(u32),
-}
+use edits::Entry;
+use refusal::Refusal;
+use search::Op;
+use words::Pair;
 
 // C1
-pub fn open(space: &mut [u64], roster: &[u64]) -> Answer
-    ensures { exit (meant result) space.new [] ≡ opening space.old roster.now }
+pub fn open(space: &mut [u64], roster: &[u64]) -> Result<(), Refusal>
+    ensures { exit (done_meant result) space.new [] ≡ opening space.old roster.now }
 {
     if space.len() != 1809 {
-        return Answer::Refused(1);
+        return Err(Refusal::Unsound);
     }
     if refusals::bad_roster(roster) {
-        return Answer::Refused(9);
+        return Err(Refusal::BadRoster);
     }
     holdings::fill(space, roster);
-    Answer::Done
+    Ok(())
 }
 
 // C2
 pub fn put(
     space: &mut [u64],
     party: u32,
-    read_partitions: u64,
-    read_key: i32,
-    take_partitions: u64,
-    take_key: i32,
+    read: Pair,
+    take: Pair,
     fields: &[u64],
-) -> Answer
-    ensures { exit (meant result) space.new [] ≡ call space.old (put party (pair read_partitions read_key) (pair take_partitions take_key) fields.now) }
+) -> Result<(), Refusal>
+    ensures { exit (done_meant result) space.new [] ≡ call space.old (put party (meant read) (meant take) fields.now) }
 {
-    let verdict = refusals::of_put(
-        space,
-        party,
-        read_partitions,
-        read_key,
-        take_partitions,
-        take_key,
+    refusals::of_put(space, party, read, take, fields)?;
+    let entry = Entry {
+        writer: party as u64,
+        read: read.stored(),
+        take: take.stored(),
         fields,
-    );
-    if let Verdict::Refused(number) = verdict {
-        return Answer::Refused(number);
-    }
-    let stored_read = words::stored_key(read_key);
-    let stored_take = words::stored_key(take_key);
-    edits::add_row(
-        space,
-        party as u64,
-        read_partitions,
-        stored_read,
-        take_partitions,
-        stored_take,
-        fields,
-    );
-    Answer::Done
+    };
+    edits::add_row(space, entry);
+    Ok(())
 }
 
 // C8: the space is lent for reading only, so no word of it changes.
 pub fn look(
     space: &[u64],
     party: u32,
-    partitions: u64,
-    key: i32,
+    pair: Pair,
     fields: &[u64],
     res: &mut [u64],
-) -> Answer
-    ensures { exit (meant result) space.now res.new ≡ call space.now (seek looking party (pair partitions key) fields.now res.old) }
+) -> Result<Option<usize>, Refusal>
+    ensures { exit (found_meant result) space.now res.new ≡ call space.now (seek looking party (meant pair) fields.now res.old) }
 {
-    let found = seek(space, Op::Looking, party, partitions, key, fields, res);
-    answer_of(found, fields.len())
+    let found = seek(space, Op::Looking, party, pair, fields, res)?;
+    // `and`: the boards' build takes no closure that holds a reference (board/module.py)
+    Ok(found.and(Some(fields.len())))
 }
 
 // C3
 pub fn receive(
     space: &mut [u64],
     party: u32,
-    partitions: u64,
-    key: i32,
+    pair: Pair,
     fields: &[u64],
     res: &mut [u64],
-) -> Answer
-    ensures { exit (meant result) space.new res.new ≡ call space.old (seek receiving party (pair partitions key) fields.now res.old) }
+) -> Result<Option<usize>, Refusal>
+    ensures { exit (found_meant result) space.new res.new ≡ call space.old (seek receiving party (meant pair) fields.now res.old) }
 {
-    let found = obtain(space, Op::Receiving, party, partitions, key, fields, res);
-    answer_of(found, fields.len())
+    let found = obtain(space, Op::Receiving, party, pair, fields, res)?;
+    Ok(found.and(Some(fields.len())))
 }
 
 // C4
 pub fn take(
     space: &mut [u64],
     party: u32,
-    partitions: u64,
-    key: i32,
+    pair: Pair,
     fields: &[u64],
     res: &mut [u64],
-) -> Answer
-    ensures { exit (meant result) space.new res.new ≡ call space.old (seek taking party (pair partitions key) fields.now res.old) }
+) -> Result<Option<usize>, Refusal>
+    ensures { exit (found_meant result) space.new res.new ≡ call space.old (seek taking party (meant pair) fields.now res.old) }
 {
-    let n = fields.len();
-    let found = obtain(space, Op::Taking, party, partitions, key, fields, res);
-    let Sought::At(row) = found else {
-        return answer_of(found, n);
+    let Some(row) = obtain(space, Op::Taking, party, pair, fields, res)? else {
+        return Ok(None);
     };
     edits::remove_row(space, row);
-    Answer::Found(n)
+    Ok(Some(fields.len()))
 }
 
 // C3, C4: what receive and take have in common: where an entry is found, the party holds the names in its fields.
@@ -136,22 +102,19 @@ fn obtain(
     space: &mut [u64],
     op: Op,
     party: u32,
-    partitions: u64,
-    key: i32,
+    pair: Pair,
     fields: &[u64],
     res: &mut [u64],
-) -> Sought
-    ensures value { result ≡ sought_in space.old (place.meant op) party (pair partitions key) fields.now (length res.old) }
-    ensures space_after { space.new ≡ granted result party (length fields.now) space.old }
-    ensures res_after { res.new ≡ written result (length fields.now) space.old res.old }
+) -> Result<Option<usize>, Refusal>
+    ensures value { numbered result ≡ sought_in space.old (place.meant op) party (meant pair) fields.now (length res.old) }
+    ensures space_after { space.new ≡ granted (numbered result) party (length fields.now) space.old }
+    ensures res_after { res.new ≡ written (numbered result) (length fields.now) space.old res.old }
 {
-    let n = fields.len();
-    let found = seek(space, op, party, partitions, key, fields, res);
-    let Sought::At(row) = found else {
-        return found;
+    let Some(row) = seek(space, op, party, pair, fields, res)? else {
+        return Ok(None);
     };
-    holdings::hold_names(space, party as usize, &res[..n]);
-    Sought::At(row)
+    holdings::hold_names(space, party as usize, &res[..fields.len()]);
+    Ok(Some(row))
 }
 
 // R1 to R7, R13, R14, M5: what all three have in common: the oldest match is sought, and its fields are copied out.
@@ -159,39 +122,31 @@ fn seek(
     space: &[u64],
     op: Op,
     party: u32,
-    partitions: u64,
-    key: i32,
+    pair: Pair,
     fields: &[u64],
     res: &mut [u64],
-) -> Sought
-    ensures value { result ≡ sought_in space.now (place.meant op) party (pair partitions key) fields.now (length res.old) }
-    ensures res_after { res.new ≡ written result (length fields.now) space.now res.old }
+) -> Result<Option<usize>, Refusal>
+    ensures value { numbered result ≡ sought_in space.now (place.meant op) party (meant pair) fields.now (length res.old) }
+    ensures res_after { res.new ≡ written (numbered result) (length fields.now) space.now res.old }
 {
     // parts of their own: passed on whole, a slice is read byte by byte on the board's smaller core
     let template = &fields[0..];
     let shared = &space[0..];
-    let admission = refusals::of_seek(shared, party, partitions, key, template, res.len());
-    if let Admission::Refused(number) = admission {
-        return Sought::Refused(number);
-    }
-    let bounded = refusals::has_bounds(admission);
-    let cokey = words::stored_co_key(key);
-    let Found::At(row) = search::search(shared, op, partitions, cokey, template, bounded) else {
-        return Sought::Nothing;
+    let bounded = refusals::of_seek(shared, party, pair, template, res.len())?;
+    let cokey = co_key_of(pair);
+    let Some(row) = search::search(shared, op, pair.partitions, cokey, template, bounded) else {
+        return Ok(None);
     };
     copy_out(shared, row, fields.len(), res);
-    Sought::At(row)
+    Ok(Some(row))
 }
 
-// C5: the answer of a look, receive or take.
-fn answer_of(found: Sought, n: usize) -> Answer
-    ensures { meant result ≡ answered found n }
+// N4, N5: the key that the search looks for.
+fn co_key_of(pair: Pair) -> u32
+    requires { key_in_range pair.key ≡ true }
+    ensures { result ≡ stored (co_key pair.key) }
 {
-    match found {
-        Sought::At(_) => Answer::Found(n),
-        Sought::Nothing => Answer::None,
-        Sought::Refused(number) => Answer::Refused(number),
-    }
+    words::stored_co_key(pair.key)
 }
 
 // C3, C8: the row's first n field words come first in the result, and the rest of it is kept.

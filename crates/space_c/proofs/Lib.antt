@@ -1,3 +1,2 @@
-pub mod Bounds
-pub mod Files
-pub mod Starts
+mod Bounds
+mod Files

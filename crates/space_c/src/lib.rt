@@ -1,23 +1,24 @@
 // The five calls, the reading of a roster and the start order, for programs in C: the crate space_c_c exports them as include/space.h declares them.
 #![tactic(auto)]
 
-ghost use Rattle.std.specs.Prelude.{◌≡◌, []};
+ghost use Rattle.std.specs.Prelude.{◌≡◌, ◌+◌, []};
 ghost use Rattle.rules.specs.Matching.{pair, looking, receiving, taking};
 ghost use Rattle.rules.specs.Calls.{put, seek};
 ghost use Rattle.rules.specs.Words.{call, opening};
-ghost use Rattle.space.specs.Answers.{meant, Small};
+ghost use Rattle.refusal.specs.Numbers.{number};
+ghost use Rattle.space.specs.Answers.{done_meant, found_meant, Small};
 ghost use Rattle.start_order.specs.Call.{call_on};
 ghost use Rattle.space_c.specs.Codes.{code_of, Left, read_into, Read, Started};
 
-use roster_file::Reading;
-use space::Answer;
+use refusal::Refusal;
 use start_order::Start;
+use words::Pair;
 
 // C1
 pub fn space_open(space: &mut [u64], roster: &[u64]) -> u32
     ensures { Left result space.new [] (opening space.old roster.now) }
 {
-    code(space::open(space, roster))
+    done(space::open(space, roster))
 }
 
 // C2
@@ -32,15 +33,15 @@ pub fn space_put(
 ) -> u32
     ensures { Left result space.new [] (call space.old (put party (pair read_partitions read_key) (pair take_partitions take_key) fields.now)) }
 {
-    code(space::put(
-        space,
-        party,
-        read_partitions,
-        read_key,
-        take_partitions,
-        take_key,
-        fields,
-    ))
+    let read = Pair {
+        partitions: read_partitions,
+        key: read_key,
+    };
+    let take = Pair {
+        partitions: take_partitions,
+        key: take_key,
+    };
+    done(space::put(space, party, read, take, fields))
 }
 
 // C8
@@ -54,7 +55,8 @@ pub fn space_look(
 ) -> u32
     ensures { Left result space.now res.new (call space.now (seek looking party (pair partitions key) fields.now res.old)) }
 {
-    code(space::look(space, party, partitions, key, fields, res))
+    let pair = Pair { partitions, key };
+    found(space::look(space, party, pair, fields, res))
 }
 
 // C3
@@ -68,7 +70,8 @@ pub fn space_receive(
 ) -> u32
     ensures { Left result space.new res.new (call space.old (seek receiving party (pair partitions key) fields.now res.old)) }
 {
-    code(space::receive(space, party, partitions, key, fields, res))
+    let pair = Pair { partitions, key };
+    found(space::receive(space, party, pair, fields, res))
 }
 
 // C4
@@ -82,7 +85,8 @@ pub fn space_take(
 ) -> u32
     ensures { Left result space.new res.new (call space.old (seek taking party (pair partitions key) fields.now res.old)) }
 {
-    code(space::take(space, party, partitions, key, fields, res))
+    let pair = Pair { partitions, key };
+    found(space::take(space, party, pair, fields, res))
 }
 
 // D1 to D5: a roster from a file.
@@ -90,36 +94,47 @@ pub fn space_read_roster(file: &[u8], roster: &mut [u64]) -> u32
     ensures { Read result roster.old roster.new (read_into file.now roster.old) }
 {
     if roster.len() != 16 {
-        return 109;
+        return refused(Refusal::BadRoster);
     }
-    let read = roster_file::read_roster(file, roster);
-    match read {
-        Reading::Given => 0,
-        Reading::Refused(n) => 100 + n,
-    }
+    done(roster_file::read_roster(file, roster))
 }
 
 // O4, O5: the start order.
 pub fn space_start_order(pairs: &[u64], res: &mut [u64]) -> u32
     ensures { Started result res.old res.new (call_on pairs.now res.old) }
 {
-    let start = start_order::start_order(pairs, res);
-    match start {
-        Start::Order => 0,
-        Start::Circle(p) => p + 1,
-        Start::Refused(n) => 100 + n,
+    match start_order::start_order(pairs, res) {
+        Ok(Start::Order) => 0,
+        Ok(Start::Circle(party)) => party + 1,
+        Err(refusal) => refused(refusal),
     }
 }
 
-// C5: the answer as a number.
-fn code(a: Answer) -> u32
-    requires { Small (meant a) }
-    ensures { result ≡ code_of (meant a) }
+// C5, D5: an opening, a put or a file as a number.
+fn done(answer: Result<(), Refusal>) -> u32
+    ensures { result ≡ code_of (done_meant answer) }
 {
-    match a {
-        Answer::Done => 0,
-        Answer::Found(n) => n as u32,
-        Answer::None => 0,
-        Answer::Refused(n) => 100 + n,
+    match answer {
+        Ok(()) => 0,
+        Err(refusal) => refused(refusal),
     }
+}
+
+// C5: a look, receive or take as a number.
+fn found(answer: Result<Option<usize>, Refusal>) -> u32
+    requires { Small (found_meant answer) }
+    ensures { result ≡ code_of (found_meant answer) }
+{
+    match answer {
+        Ok(Some(n)) => n as u32,
+        Ok(None) => 0,
+        Err(refusal) => refused(refusal),
+    }
+}
+
+// C5
+fn refused(refusal: Refusal) -> u32
+    ensures { result ≡ 100 + number refusal }
+{
+    100 + refusal.number()
 }

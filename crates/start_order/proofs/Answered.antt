@@ -13,41 +13,44 @@ use Rattle.rules.specs.Names.{parties}
 use Rattle.rules.proofs.ListLaws.{bool}
 use Rattle.start_order.specs.Pairs.{Pairs, Relation, precedes, on_circle}
 use Rattle.start_order.specs.Order.{order}
-use Rattle.start_order.specs.Call.{Outcome, ordered, circle, refused, settled_by, settled, above7, start_order}
-use Rattle.start_order.specs.Answers.{Settled}
+use Rattle.start_order.specs.Call.{Outcome, ordered, circle, refused, settled_by, settled, above7, start_order, result_after}
+use Rattle.std.specs.Prelude.{Result, Ok, Err}
+use Rattle.refusal.specs.declared.Refusal.{Refusal}
+use Rattle.refusal.specs.Numbers.{number, numbered}
+use Rattle.start_order.specs.Answers.{answer_in, Settled}
 use Rattle.start_order.specs.declared.Start.{Start}
 use Rattle.start_order.specs.declared.Start.TheVariants as start
 use Rattle.start_order.proofs.Places.{smallest-of, follows, parties-only}
 
 -- ---- the outcome
 
-module _ (o : Outcome) (r : Start) (places after : List ℕ) (s : Settled o r places after) where
-  pub was-ordered : r ≡ start.Order → length places ≡ 8 → o ≡ ordered after
-  was-ordered e l = go o s
+module _ (o : Outcome) (r : Result Start Refusal) (places after : List ℕ) (s : Settled o r places after) where
+  pub was-ordered : r ≡ Ok start.Order → length places ≡ 8 → o ≡ ordered after
+  was-ordered e l = go o s.words (ap numbered (sym e) ∙ s.answer)
     where
-      go : (o : Outcome) → Settled o r places after → o ≡ ordered after
-      go (ordered ws) t =
+      go : (o : Outcome) → after ≡ result_after o places → ◌≡◌ {A = Result Start ℕ} (Ok start.Order) (answer_in o) → o ≡ ordered after
+      go (ordered ws) w q =
           let short : length places ≤ 8 = omega arith in
           let d : drop 8 places ≡ [] = drop_of_length-le places short in
-          ap ordered (sym (t.words ∙ ap (λ (l : List ℕ). ws ++ l) d ∙ append-nil ws))
-      go (circle p) t = let q : start.Order ≡ start.Circle p = sym e ∙ t.answer in let z : ◌≡◌ {A = ℕ} 0 1 = cc in absurd (omega arith)
-      go (refused n) t = let q : start.Order ≡ start.Refused n = sym e ∙ t.answer in let z : ◌≡◌ {A = ℕ} 0 1 = cc in absurd (omega arith)
+          ap ordered (sym (w ∙ ap (λ (l : List ℕ). ws ++ l) d ∙ append-nil ws))
+      go (circle p) w q = absurd cc
+      go (refused n) w q = absurd cc
 
-  pub was-circle : (p : ℕ) → r ≡ start.Circle p → o ≡ circle p
-  was-circle p e = go o s
+  pub was-circle : (p : ℕ) → r ≡ Ok (start.Circle p) → o ≡ circle p
+  was-circle p e = go o (ap numbered (sym e) ∙ s.answer)
     where
-      go : (o : Outcome) → Settled o r places after → o ≡ circle p
-      go (ordered ws) t = let q : start.Circle p ≡ start.Order = sym e ∙ t.answer in let z : ◌≡◌ {A = ℕ} 0 1 = cc in absurd (omega arith)
-      go (circle m) t = let q : start.Circle p ≡ start.Circle m = sym e ∙ t.answer in let x : m ≡ p = cc in ap circle x
-      go (refused n) t = let q : start.Circle p ≡ start.Refused n = sym e ∙ t.answer in let z : ◌≡◌ {A = ℕ} 0 1 = cc in absurd (omega arith)
+      go : (o : Outcome) → ◌≡◌ {A = Result Start ℕ} (Ok (start.Circle p)) (answer_in o) → o ≡ circle p
+      go (ordered ws) q = absurd cc
+      go (circle m) q = let x : m ≡ p = cc in ap circle x
+      go (refused n) q = absurd cc
 
-  pub was-refused : (n : ℕ) → r ≡ start.Refused n → o ≡ refused n
-  was-refused n e = go o s
+  pub was-refused : (e : Refusal) → r ≡ Err e → o ≡ refused (number e)
+  was-refused e h = go o (ap numbered (sym h) ∙ s.answer)
     where
-      go : (o : Outcome) → Settled o r places after → o ≡ refused n
-      go (ordered ws) t = let q : start.Refused n ≡ start.Order = sym e ∙ t.answer in let z : ◌≡◌ {A = ℕ} 0 1 = cc in absurd (omega arith)
-      go (circle p) t = let q : start.Refused n ≡ start.Circle p = sym e ∙ t.answer in let z : ◌≡◌ {A = ℕ} 0 1 = cc in absurd (omega arith)
-      go (refused m) t = let q : start.Refused n ≡ start.Refused m = sym e ∙ t.answer in let x : m ≡ n = cc in ap refused x
+      go : (o : Outcome) → ◌≡◌ {A = Result Start ℕ} (Err (number e)) (answer_in o) → o ≡ refused (number e)
+      go (ordered ws) q = absurd cc
+      go (circle p) q = absurd cc
+      go (refused n) q = let x : n ≡ number e = cc in ap refused x
 
 -- ---- the parties of an outcome are below 8, and its refusal is one from `low` to 16
 

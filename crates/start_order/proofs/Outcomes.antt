@@ -1,14 +1,14 @@
 -- What the call comes to, by what the code finds on its way.
-use Prim.Native.Nat.{ℕ, zero, suc, ◌<◌}
+use Prim.Native.Nat.{ℕ, zero, suc}
 use mathlib.Core.Path.{◌≡◌, refl, sym, ap, ◌∙◌, subst, fun_ext}
 use mathlib.Core.Logic.{◌⊎◌, inl, inr}
 use mathlib.Core.Bool.{Bool, true, false, ◌||◌}
 use mathlib.Core.Option.{Option, none, some}
 use mathlib.Core.List.{List, [], ◌∷◌, map}
 use native.Mathlib.Omega.{arith}
-use lib.Dec.{ltb}
+use lib.Dec.{eqb, ltb}
 use lib.ListN.{length, get_or, replicate, length-map}
-use Rattle.rules.specs.Lists.{any, first, All}
+use Rattle.rules.specs.Lists.{any, first}
 use Rattle.rules.specs.Names.{parties, bit}
 use Rattle.rules.specs.Words.{zeros}
 use Rattle.rules.proofs.BitLaws.{zero_bit}
@@ -16,11 +16,16 @@ use Rattle.rules.proofs.ListLaws.{bool}
 use Rattle.start_order.specs.Pairs.{Pairs, Relation, pair_of, precedes, chain, on_circle}
 use Rattle.start_order.specs.Order.{order}
 use Rattle.start_order.specs.Call.{Outcome, ordered, circle, refused, settled_by, settled, above7, start_order, call_on}
-use Rattle.start_order.specs.Answers.{relation_of, Sets, gathered, Settled}
+use Rattle.std.specs.Prelude.{Some, None}
+use Rattle.std.proofs.lemmas.Option.{cond_some}
+use Rattle.rules.proofs.BitLaws.{eqb-true}
+use Rattle.start_order.specs.Answers.{relation_of, gathered, full_order, Settled}
 use Rattle.start_order.specs.declared.Start.{Start}
+use Rattle.std.specs.Prelude.{Result}
+use Rattle.refusal.specs.declared.Refusal.{Refusal}
 use Rattle.start_order.proofs.Pairs.{InRange, ranged}
 use Rattle.start_order.proofs.Chains.{some_chain}
-use Rattle.start_order.proofs.Sets.{gathered-relation, gathered-sets}
+use Rattle.start_order.proofs.Sets.{gathered-relation}
 use Rattle.start_order.proofs.Places.{smallest-of}
 use Rattle.start_order.proofs.Circles.{eight-places}
 use Rattle.start_order.proofs.Orders.{is-order, no-circle}
@@ -48,10 +53,6 @@ blank zero b = refl
 blank (suc n) zero = refl
 blank (suc n) (suc b) = blank n b
 
-small : (n : ℕ) → All (λ w. w < 256) (replicate n 0)
-small zero = tt
-small (suc n) = (omega arith, small n)
-
 module _ (ps : Pairs) (range : InRange ps) where
   pub all-gathered : relation_of (gathered (zeros 8) ps) ≡ precedes ps
   unfolding zeros
@@ -59,13 +60,15 @@ module _ (ps : Pairs) (range : InRange ps) where
       gathered-relation ps (zeros 8) refl range
       ∙ fun_ext (λ a. fun_ext (λ b. ap (λ (w : ℕ). bit w a || precedes ps a b) (blank 8 b) ∙ ap (λ (t : Bool). t || precedes ps a b) (zero_bit a)))
 
-  pub all-sets : Sets (gathered (zeros 8) ps)
-  unfolding zeros
-  all-sets =
-      let none_yet : Sets (zeros 8) = record { eight = refl; parties = small 8 } in
-      gathered-sets ps (zeros 8) none_yet range
-
 -- ---- not refused
+
+-- the order has eight places, or not
+module _ (ws : List ℕ) where
+  pub full-order : (vs : List ℕ) → full_order ws ≡ Some vs → (length ws ≡ 8) × (ws ≡ vs)
+  full-order vs e = let h = cond_some (eqb (length ws) 8) ws vs e in (eqb-true (length ws) 8 h.0, h.1)
+
+  pub no-order : full_order ws ≡ None → length ws ≡ 8 → ⊥
+  no-order e h = let k : full_order ws ≡ Some ws = rw h refl in let z : None ≡ Some ws = sym e ∙ k in cc
 
 first_any : (t : ℕ → Bool) (l : List ℕ) (p : ℕ) → first t l ≡ some p → any t l ≡ true
 first_any t [] p e = let z : ◌≡◌ {A = ℕ} 0 1 = cc in absurd (omega arith)
@@ -99,5 +102,5 @@ pub named : (R : Relation) (p : ℕ) → first (λ q. chain R 8 q q) parties ≡
 unfolding settled on_circle
 named R p h = ap (λ (o : Option ℕ). settled_by o R) h
 
-pub settles : {o o' : Outcome} {r : Start} {result after : List ℕ} → o ≡ o' → Settled o' r result after → Settled o r result after
+pub settles : {o o' : Outcome} {r : Result Start Refusal} {result after : List ℕ} → o ≡ o' → Settled o' r result after → Settled o r result after
 settles {o} {o'} {r} {result} {after} e h = subst (λ (x : Outcome). Settled x r result after) (sym e) h

@@ -8,19 +8,18 @@ use native.Mathlib.Nat.{mod-lt, zero-lt-suc}
 use native.Mathlib.Decide.{ℕ_discrete}
 use native.Mathlib.Omega.{arith}
 use borrow.Author.Tests.{eq-eqb, ne_eqb}
-use lib.Bits.{bit_or, or_lt}
+use lib.Bits.{bit_or}
 use lib.Dec.{eqb}
-use lib.ListN.{length, get_or, set, length-set, get_or-map}
+use lib.ListN.{length, get_or, length-set, get_or-map}
 use lib.Seq.{get_or-set_same, get_or-set_other}
-use lib.Pow.{pow-lt}
-use Rattle.rules.specs.Lists.{keep, All, from}
+use Rattle.rules.specs.Lists.{keep, from}
 use Rattle.rules.specs.Names.{parties, bit, bits_in, with_bit, set_bit}
 use Rattle.rules.proofs.BitLaws.{eqb-true, or-bit, bit-with, bit_kept, bit-self, zero_bit, no-bit}
-use Rattle.rules.proofs.ListLaws.{bool, keep_append, All-at}
+use Rattle.rules.proofs.ListLaws.{bool, keep_append}
 use Rattle.rules.proofs.Members.{or-true}
 use Rattle.rules.proofs.SetLaws.{same_truth}
 use Rattle.start_order.specs.Pairs.{Pairs, Relation, precedes}
-use Rattle.start_order.specs.Answers.{relation_of, Sets, gathered, joined_by}
+use Rattle.start_order.specs.Answers.{relation_of, gathered, joined_by}
 use Rattle.start_order.proofs.Pairs.{either, or_assoc, InRange}
 
 -- ---- bits
@@ -93,23 +92,6 @@ gathered-relation (p ∷ ps) ws e range =
 pub gathered-length : (ps : Pairs) (ws : List ℕ) → length (gathered ws ps) ≡ length ws
 gathered-length [] ws = refl
 gathered-length (p ∷ ps) ws = gathered-length ps (set_bit p.1 p.0 ws) ∙ length-set ws p.1 _
-
-All-set : (P : ℕ → Type 0) (ws : List ℕ) (i v : ℕ) → All P ws → P v → All P (set ws i v)
-All-set P [] i v h k = h
-All-set P (w ∷ ws) zero v h k = (k, h.1)
-All-set P (w ∷ ws) (suc i) v h k = (h.0, All-set P ws i v h.1 k)
-
--- the words stay sets of parties
-pub gathered-sets : (ps : Pairs) (ws : List ℕ) → Sets ws → InRange ps → Sets (gathered ws ps)
-gathered-sets ps ws s range = record { eight = gathered-length ps ws ∙ s.eight; parties = go ps ws s.eight s.parties range }
-  where
-    go : (ps : Pairs) (ws : List ℕ) → length ws ≡ 8 → All (λ w. w < 256) ws → InRange ps → All (λ w. w < 256) (gathered ws ps)
-    go [] ws e h range = h
-    go (p ∷ ps) ws e h range =
-        let r = range p.0 p.1 (inl refl) in
-        let w : ℕ = get_or ws p.1 0 in
-        let new : with_bit w p.0 < 256 = or_lt 8 w (2 ^ p.0) (All-at (λ w. w < 256) ws h p.1 (omega (arith, r.1))) (pow-lt r.0) in
-        go ps (set_bit p.1 p.0 ws) (length-set ws p.1 _ ∙ e) (All-set (λ w. w < 256) ws p.1 (with_bit w p.0) h new) (λ a b i. range a b (inr i))
 
 -- ---- chains through k
 

@@ -10,18 +10,18 @@ use native.Mathlib.Omega.{arith}
 use borrow.Author.Tests.{ne_eqb, ltb-true, ltb-false, lt-ltb, le-ltb}
 use lib.Bits.{bit_or, or_comm, or_lt, or_add_and, and_le_r, or_shr, or_mod}
 use lib.Dec.{eqb, ltb}
-use lib.ListN.{length, get_or, take, drop, set, length-map}
+use lib.ListN.{length, get_or, take, drop, set}
 use lib.Seq.{drop-cons, length-take-le, take_all}
-use Rattle.edits.proofs.Store.{store}
+use Rattle.std.specs.Prelude.{Some, None}
+use Rattle.std.proofs.lemmas.List.{take_more_set}
 use Rattle.rules.specs.Lists.{any, first, from}
-use Rattle.rules.specs.Names.{parties, bit, with_bit, set_bit}
+use Rattle.rules.specs.Names.{parties, bit, with_bit}
 use Rattle.rules.proofs.BitLaws.{zero_bit}
-use Rattle.rules.proofs.ListLaws.{bool, or_left, or_right}
+use Rattle.rules.proofs.ListLaws.{bool}
 use Rattle.start_order.specs.Pairs.{Relation, pair_of}
 use Rattle.start_order.specs.Order.{next, is_in, goes_on, order_from, order}
 use Rattle.start_order.specs.Call.{above7}
-use Rattle.start_order.specs.Answers.{gathered, next_in}
-use Rattle.start_order.specs.declared.Next.TheVariants as found
+use Rattle.start_order.specs.Answers.{full_order}
 use Rattle.start_order.proofs.Pairs.{or_assoc}
 use Rattle.start_order.proofs.Places.{is_in-snoc}
 use Rattle.start_order.proofs.Sets.{with-bits}
@@ -46,18 +46,18 @@ some-passes t [] y n = false≢true y
 some-passes t (x ∷ l) y n = go (bool (t x)) (some-passes t l)
   where
     go : (t x ≡ true) ⊎ (t x ≡ false) → (any t l ≡ true → first t l ≡ none → ⊥) → ⊥
-    go (inl u) r = let e : some x ≡ none = rw u at n in let z : ◌≡◌ {A = ℕ} 0 1 = cc in omega arith
+    go (inl u) r = let e : some x ≡ none = rw u at n in cc
     go (inr u) r = r (rw u at y) (rw u at n)
 
 -- some party passes, and none before the last: it is the last
-pub last_one : (t : ℕ → Bool) (p : ℕ) → p ≡ 7 → first t (from p (8 - p)) ≡ first t parties → any t parties ≡ true → first t parties ≡ some p
+pub last_one : (t : ℕ → Bool) (p : ℕ) → p ≡ 7 → first t (from p (8 - p)) ≡ first t parties → any t parties ≡ true → first t parties ≡ some 7
 last_one t p e h y = go (bool (t 7))
   where
     at_7 : first t parties ≡ first t (7 ∷ [])
     at_7 = sym h ∙ ap (λ (i : ℕ). first t (from i (8 - i))) e
 
-    go : (t 7 ≡ true) ⊎ (t 7 ≡ false) → first t parties ≡ some p
-    go (inl u) = at_7 ∙ rw u (ap some (sym e))
+    go : (t 7 ≡ true) ⊎ (t 7 ≡ false) → first t parties ≡ some 7
+    go (inl u) = at_7 ∙ rw u refl
     go (inr u) = let n : first t parties ≡ none = at_7 ∙ rw u refl in absurd (some-passes t parties y n)
 
 -- ---- pair by pair
@@ -95,68 +95,29 @@ seen-above s w =
     go false false true d = refl
     go false false false d = refl
 
-module _ (pairs : List ℕ) (i : ℕ) (l : i < length pairs) where
-  pair-here : map pair_of (drop i pairs) ≡ pair_of (get_or pairs i 0) ∷ map pair_of (drop (i + 1) pairs)
-  pair-here = rw add-one (ap (map pair_of) (drop-cons pairs i 0 l))
-
-  pub one-gathered : (ws : List ℕ) → gathered ws (map pair_of (drop i pairs)) ≡ gathered (set_bit (get_or pairs i 0 % 4294967296) (get_or pairs i 0 / 4294967296) ws) (map pair_of (drop (i + 1) pairs))
-  one-gathered ws = ap (gathered ws) pair-here
-
-  one-above : any above7 (map pair_of (drop i pairs)) ≡ (above7 (pair_of (get_or pairs i 0)) || any above7 (map pair_of (drop (i + 1) pairs)))
-  one-above = ap (any above7) pair-here
-
-  -- the pair is in range, and so are those after it
-  pub pair-in : any above7 (map pair_of (drop i pairs)) ≡ false → (above7 (pair_of (get_or pairs i 0)) ≡ false) × (any above7 (map pair_of (drop (i + 1) pairs)) ≡ false)
-  pair-in h =
-      let e = sym one-above ∙ h in (
-        or_left (above7 (pair_of (get_or pairs i 0))) (any above7 (map pair_of (drop (i + 1) pairs))) e,
-        or_right (above7 (pair_of (get_or pairs i 0))) (any above7 (map pair_of (drop (i + 1) pairs))) e,
-      )
-
-  -- the bits that were seen, with this pair's
-  pub one_seen : (s : ℕ) → (above7 (pair_of s) || any above7 (map pair_of (drop i pairs))) ≡ (above7 (pair_of (bit_or s (get_or pairs i 0))) || any above7 (map pair_of (drop (i + 1) pairs)))
-  one_seen s =
-      ap (λ (t : Bool). above7 (pair_of s) || t) one-above
-      ∙ sym (or_assoc (above7 (pair_of s)) (above7 (pair_of (get_or pairs i 0))) (any above7 (map pair_of (drop (i + 1) pairs))))
-      ∙ ap (λ (t : Bool). t || any above7 (map pair_of (drop (i + 1) pairs))) (sym (seen-above s (get_or pairs i 0)))
+-- the bits that were seen, with those of one pair more
+pub one_seen : (pairs : List ℕ) (i s : ℕ) → i < length pairs
+    → (above7 (pair_of s) || any above7 (map pair_of (drop i pairs))) ≡ (above7 (pair_of (bit_or s (get_or pairs i 0))) || any above7 (map pair_of (drop (i + 1) pairs)))
+one_seen pairs i s l =
+    let w : ℕ = get_or pairs i 0 in
+    let rest : Bool = any above7 (map pair_of (drop (i + 1) pairs)) in
+    let here : any above7 (map pair_of (drop i pairs)) ≡ (above7 (pair_of w) || rest) = rw add-one (ap (λ (l : List ℕ). any above7 (map pair_of l)) (drop-cons pairs i 0 l)) in
+    ap (λ (t : Bool). above7 (pair_of s) || t) here
+    ∙ sym (or_assoc (above7 (pair_of s)) (above7 (pair_of w)) rest)
+    ∙ ap (λ (t : Bool). t || rest) (sym (seen-above s w))
 
 -- ---- the sets, each mapped in its place
 
-module _ (g : ℕ → ℕ) where
-  ahead : (d : List ℕ) (b : ℕ) → b < length d → get_or (take b (map g d) ++ drop b d) b 0 ≡ get_or d b 0
-  ahead [] b l = absurd (omega arith)
-  ahead (x ∷ d) zero l = refl
-  ahead (x ∷ d) (suc b) l = ahead d b (omega arith)
-
-  mapped : (d : List ℕ) (b : ℕ) → b < length d → g (get_or d b 0) ≡ get_or (map g d) b 0
-  mapped [] b l = absurd (omega arith)
-  mapped (x ∷ d) zero l = refl
-  mapped (x ∷ d) (suc b) l = mapped d b (omega arith)
-
-  pub map-turn : (d p : List ℕ) (b v : ℕ) → b < length d → p ≡ take b (map g d) ++ drop b d → v ≡ g (get_or p b 0)
-      → set p b v ≡ take (b + 1) (map g d) ++ drop (b + 1) d
-  map-turn d p b v l h e =
-      let here : get_or p b 0 ≡ get_or d b 0 = ap (λ (q : List ℕ). get_or q b 0) h ∙ ahead d b l in
-      let m = length-map d g in
-      store (map g d) d p b v h (e ∙ ap g here ∙ mapped d b l) (omega arith) l
+pub map-turn : (g : ℕ → ℕ) (d p : List ℕ) (b v : ℕ) → b < length d → p ≡ take b (map g d) ++ drop b d → v ≡ g (get_or p b 0)
+    → set p b v ≡ take (b + 1) (map g d) ++ drop (b + 1) d
+map-turn g d p b v l h e = rw (e, h, add-one) (go d b l)
+  where
+    go : (d : List ℕ) (b : ℕ) → b < length d → set (take b (map g d) ++ drop b d) b (g (get_or (take b (map g d) ++ drop b d) b 0)) ≡ take (suc b) (map g d) ++ drop (suc b) d
+    go [] b l = absurd (omega arith)
+    go (x ∷ d) zero l = refl
+    go (x ∷ d) (suc b) l = ap (λ (t : List ℕ). g x ∷ t) (go d b (omega arith))
 
 -- ---- the order, place by place
-
-pub party-next : (o : Option ℕ) (p : ℕ) → next_in o ≡ found.Party p → o ≡ some p
-party-next none p e = let z : ◌≡◌ {A = ℕ} 0 1 = cc in absurd (omega arith)
-party-next (some q) p e = let same : q ≡ p = cc in ap some same
-
-pub stuck-next : (o : Option ℕ) → next_in o ≡ found.Stuck → o ≡ none
-stuck-next none e = refl
-stuck-next (some q) e = let z : ◌≡◌ {A = ℕ} 0 1 = cc in absurd (omega arith)
-
-grown : (l : List ℕ) (n a : ℕ) → n < length l → take (n + 1) (set l n a) ≡ take n l ++ (a ∷ [])
-grown l n a h = rw add-one (go l n h)
-  where
-    go : (l : List ℕ) (n : ℕ) → n < length l → take (suc n) (set l n a) ≡ take n l ++ (a ∷ [])
-    go [] n h = absurd (omega arith)
-    go (x ∷ l) zero h = refl
-    go (x ∷ l) (suc n) h = ap (λ (t : List ℕ). x ∷ t) (go l n (omega arith))
 
 -- n places are taken, by those in the set, and the rest of the order follows them
 pub record Placing (R : Relation) (places : List ℕ) (placed n : ℕ) : Type 0 where
@@ -178,7 +139,7 @@ module _ (R : Relation) (places : List ℕ) (placed n : ℕ) (l : n < 8) (eight 
   one_placed p h = record { follows = follows; same = fun_ext (λ q. with-bits placed p q ∙ same q) }
     where
       now : take (n + 1) (set places n p) ≡ take n places ++ (p ∷ [])
-      now = grown places n p (omega arith)
+      now = take_more_set places n p (omega arith)
 
       follows : order R ≡ take (n + 1) (set places n p) ++ order_from R (8 - (n + 1)) (take (n + 1) (set places n p))
       follows =
@@ -193,17 +154,18 @@ module _ (R : Relation) (places : List ℕ) (placed n : ℕ) (l : n < 8) (eight 
           ∙ sym (is_in-snoc (take n places) p q)
           ∙ ap (λ (t : List ℕ). is_in t q) (sym now)
 
-  pub stuck : next R (bit placed) ≡ none → false ≡ eqb (length (order R)) 8
+  pub stuck : next R (bit placed) ≡ none → None ≡ full_order (order R)
   stuck h =
       let e : order R ≡ take n places = s.follows ∙ ap (λ (t : List ℕ). take n places ++ t) (rest ∙ ap (λ (o : Option ℕ). goes_on o (λ p. p ∷ order_from R (8 - (n + 1)) (take n places ++ (p ∷ [])))) h) ∙ append-nil (take n places) in
       let k : length (take n places) ≡ n = length-take-le n places (omega arith) in
       let other : length (order R) ≡ 8 → ⊥ = λ q. let z : n ≡ 8 = sym k ∙ ap length (sym e) ∙ q in omega arith in
-      sym (ne_eqb (length (order R)) 8 other)
+      rw (ne_eqb (length (order R)) 8 other) refl
 
-pub all-taken : (R : Relation) (places : List ℕ) (placed n : ℕ) → 8 ≤ n → n ≤ 8 → length places ≡ 8 → Placing R places placed n → order R ≡ places
+pub all-taken : (R : Relation) (places : List ℕ) (placed n : ℕ) → 8 ≤ n → n ≤ 8 → length places ≡ 8 → Placing R places placed n → Some places ≡ full_order (order R)
 unfolding order_from
 all-taken R places placed n low high eight s =
     let e : n ≡ 8 = omega arith in
     let none_left : 8 - n ≡ 0 = omega arith in
     let all : take n places ≡ places = take_all n places (omega arith) in
-    s.follows ∙ rw none_left (append-nil (take n places)) ∙ all
+    let o : order R ≡ places = s.follows ∙ rw none_left (append-nil (take n places)) ∙ all in
+    rw (o, eight) refl

@@ -6,7 +6,9 @@ ghost use Rattle.rules.specs.Lists.{all};
 ghost use Rattle.rules.specs.Names.{bit, bits_in, with_bit, set_bit, held_in, key_in_range, co_key, stored};
 ghost use Rattle.rules.specs.Partitions.{sets_agree};
 ghost use Rattle.rules.specs.Fields.{field, put_field, template_field, name_in, field_agrees};
+ghost use Rattle.rules.specs.Matching.{stored_pair};
 ghost use Rattle.words.specs.Kind.{meant, plain};
+ghost use Rattle.words.specs.Pairs as pairs;
 
 // What a field word is.
 #[derive(Clone, Copy)]
@@ -17,36 +19,54 @@ pub enum Field {
     Wildcard,
     AtLeast(u64),
     AtMost(u64),
+    // a case and no `None`: it is one of the rules' definition of a field, which the contracts cite
     Bad,
 }
 
 // F2: the one place that knows the kinds and their ranges.
-#[tactic(auto, unfolding(rules::specs::Fields::field))]
-pub fn field_of(w: u64) -> Field
-    ensures { meant result ≡ field w }
-{
-    let kind = w / 4294967296;
-    let value = w % 4294967296;
-    match kind {
-        0 => Field::Message(value),
-        1 => if value < 64 {
-            Field::Partition(value)
-        } else {
-            Field::Bad
-        },
-        2 => if value < 63 {
-            Field::Key(value)
-        } else {
-            Field::Bad
-        },
-        3 => if value == 0 {
-            Field::Wildcard
-        } else {
-            Field::Bad
-        },
-        4 => Field::AtLeast(value),
-        5 => Field::AtMost(value),
-        _ => Field::Bad,
+impl From<u64> for Field {
+    ghost from_gives = { λ w f. meant f ≡ field w };
+
+    #[tactic(auto, unfolding(rules::specs::Fields::field))]
+    fn from(w: u64) -> Field {
+        let kind = w / 4294967296;
+        let value = w % 4294967296;
+        match kind {
+            0 => Field::Message(value),
+            1 if value < 64 => Field::Partition(value),
+            2 if value < 63 => Field::Key(value),
+            3 if value == 0 => Field::Wildcard,
+            4 => Field::AtLeast(value),
+            5 => Field::AtMost(value),
+            _ => Field::Bad,
+        }
+    }
+}
+
+// E1, E2: a pair as a call names it: a set of partitions and a key.
+#[derive(Clone, Copy)]
+pub struct Pair {
+    pub partitions: u64,
+    pub key: i32,
+}
+
+// E1: a pair as an entry has it, its key stored.
+#[derive(Clone, Copy)]
+pub struct StoredPair {
+    pub partitions: u64,
+    pub key: u64,
+}
+
+impl Pair {
+    // N5
+    pub fn stored(self) -> StoredPair
+        requires { key_in_range self.key ≡ true }
+        ensures { pairs.meant_stored result ≡ stored_pair (pairs.meant self) }
+    {
+        StoredPair {
+            partitions: self.partitions,
+            key: stored_key(self.key),
+        }
     }
 }
 
@@ -55,16 +75,11 @@ pub fn field_of(w: u64) -> Field
 pub fn put_field(w: u64) -> bool
     ensures { result ≡ put_field w }
 {
-    let f = field_of(w);
-    match f {
-        Field::Message(_) => true,
-        Field::Partition(_) => true,
-        Field::Key(_) => true,
-        Field::Wildcard => false,
-        Field::AtLeast(_) => false, // bounds ask, and are not put
-        Field::AtMost(_) => false,
-        Field::Bad => false,
-    }
+    // bounds ask, and are not put
+    matches!(
+        Field::from(w),
+        Field::Message(_) | Field::Partition(_) | Field::Key(_)
+    )
 }
 
 // F4
@@ -72,16 +87,7 @@ pub fn put_field(w: u64) -> bool
 pub fn template_field(w: u64) -> bool
     ensures { result ≡ template_field w }
 {
-    let f = field_of(w);
-    match f {
-        Field::Message(_) => true,
-        Field::Partition(_) => true,
-        Field::Key(_) => true,
-        Field::Wildcard => true,
-        Field::AtLeast(_) => true,
-        Field::AtMost(_) => true,
-        Field::Bad => false,
-    }
+    !matches!(Field::from(w), Field::Bad)
 }
 
 // F2: a field of a template that is no bound.
@@ -89,31 +95,21 @@ pub fn template_field(w: u64) -> bool
 pub fn plain_field(w: u64) -> bool
     ensures { result ≡ plain w }
 {
-    let f = field_of(w);
-    match f {
-        Field::Message(_) => true,
-        Field::Partition(_) => true,
-        Field::Key(_) => true,
-        Field::Wildcard => true,
-        Field::AtLeast(_) => false, // a bound is tested by its range
-        Field::AtMost(_) => false,
-        Field::Bad => false,
-    }
+    // a bound is tested by its range
+    !matches!(
+        Field::from(w),
+        Field::AtLeast(_) | Field::AtMost(_) | Field::Bad
+    )
 }
 
 // R7: the name in a field word, if it carries one, is held.
 pub fn field_held(partitions: u64, keys: u64, w: u64) -> bool
     ensures { result ≡ all (held_in partitions keys) (name_in (field w)) }
 {
-    let f = field_of(w);
-    match f {
-        Field::Message(_) => true,
+    match Field::from(w) {
         Field::Partition(c) => has_bit(partitions, c),
         Field::Key(k) => has_bit(keys, k),
-        Field::Wildcard => true,
-        Field::AtLeast(_) => true,
-        Field::AtMost(_) => true,
-        Field::Bad => true,
+        _ => true,
     }
 }
 
@@ -121,15 +117,11 @@ pub fn field_held(partitions: u64, keys: u64, w: u64) -> bool
 pub fn field_agrees(t: u64, f: u64) -> bool
     ensures { result ≡ field_agrees t f }
 {
-    let kind = field_of(t);
-    match kind {
-        Field::Message(_) => t == f,
-        Field::Partition(_) => t == f,
-        Field::Key(_) => t == f,
+    match Field::from(t) {
         Field::Wildcard => true,
         Field::AtLeast(v) => (v <= f) & (f < 4294967296),
         Field::AtMost(v) => f <= v,
-        Field::Bad => t == f,
+        _ => t == f,
     }
 }
 
@@ -145,7 +137,7 @@ pub fn plain_agrees(t: u64, f: u64) -> bool
 pub fn has_bit(w: u64, c: u64) -> bool
     ensures { result ≡ bit w c }
 {
-    if c < 64 { (w >> c) % 2 == 1 } else { false }
+    c < 64 && (w >> c) % 2 == 1
 }
 
 // M3: the sets share a partition.

@@ -1,20 +1,17 @@
--- A party that lacks key 0, or whose bit 63 is set, decides; where none is left, all are good.
-use Rattle.std.proofs.Common.{sym, ap, ◌∙◌, arith}
+-- A key word that is not good decides; where none is left, all are good.
+use Rattle.std.proofs.Common.{refl, ap, ◌∙◌, take, drop}
 use Rattle.std.proofs.Math.Bool.{not}
-use Rattle.audit.proofs.HoldingLaws.{ok_end, holdings-stop, holdings-step}
+use Rattle.rules.proofs.Loops.{all-fails, all-ends}
+use Rattle.audit.proofs.HoldingLaws.{good, holdings-by}
 use Rattle.audit.proofs.holdings_ok.Goals as goal
 
-pub returns-then-not-key-spare : goal.returns-then-not-key-spare
-returns-then-not-key-spare c =
-    holdings-stop c.args.space.now c.loop-p.p c.requires c.loop-p-test.true
-    c.has_bit-key.ensures c.has_bit-spare.ensures c.loop-p.invariant.left_decide (ap not c.if-not-key-spare.true)
-
-pub loop-p-preserved : goal.loop-p-preserved
-loop-p-preserved c = record {
-  in_parties = omega arith;
-  left_decide = holdings-step c.args.space.now c.loop-p.p c.requires c.loop-p-test.true
-      c.has_bit-key.ensures c.has_bit-spare.ensures c.loop-p.invariant.left_decide (ap not c.if-not-key-spare.false);
-}
+pub returns-then-not-good : goal.returns-then-not-good
+returns-then-not-good c =
+    let keys = take 8 (drop 9 c.args.space.now) in
+    all-fails good keys c.loop-keys.keys-index _ c.loop-keys.invariant c.loop-keys-test.true _ (rw (c.has_bit.ensures, c.has_bit-in-loop-keys.ensures) refl) (ap not c.if-not-good.true)
+    ∙ holdings-by c.args.space.now c.requires
 
 pub returns : goal.returns
-returns c = sym (ok_end c.args.space.now c.loop-p.p c.requires c.loop-p-test.false) ∙ c.loop-p.invariant.left_decide
+returns c =
+    let keys = take 8 (drop 9 c.args.space.now) in
+    all-ends good keys c.loop-keys.keys-index _ c.loop-keys.invariant c.loop-keys-test.false ∙ holdings-by c.args.space.now c.requires

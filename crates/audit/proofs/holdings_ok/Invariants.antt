@@ -1,14 +1,8 @@
--- `holdings_ok` meets its contract: the parties from p on decide as all do.
-use Rattle.std.proofs.Common.{◌≤◌, ◌≡◌, ◌-◌}
-use Rattle.rules.specs.Words.{decode, holdings_ok}
-use Rattle.audit.proofs.HoldingLaws.{ok_from}
+-- At each key word, those that are left decide as all of them do.
+use Rattle.std.proofs.Common.{◌≡◌, take, drop}
+use Rattle.rules.specs.Lists.{all}
+use Rattle.audit.proofs.HoldingLaws.{good}
 use Rattle.audit.proofs.holdings_ok.Given as goal
 
-abbrev pub invariant-loop-p : goal.invariant-loop-p
-invariant-loop-p l = record {
-  in_parties : l.p ≤ 8;
-  left_decide : ok_from (decode l.space) l.p ≡ holdings_ok (decode l.space);
-}
-
-abbrev pub decreases-loop-p : goal.decreases-loop-p
-decreases-loop-p l = 8 - l.p
+abbrev pub invariant-loop-keys : goal.invariant-loop-keys
+invariant-loop-keys l = all good (drop l.keys-index (take 8 (drop 9 l.space))) ≡ all good (take 8 (drop 9 l.space))

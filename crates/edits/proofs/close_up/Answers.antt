@@ -5,7 +5,6 @@ use Rattle.edits.proofs.close_up.Goals as goal
 
 pub loop-i-preserved : goal.loop-i-preserved
 loop-i-preserved c = record {
-  to_last_row = omega arith;
   same_length = simp length-set c.loop-i.invariant.same_length;
   moved = move-more c.args.part.now c.loop-i.part c.loop-i.i 14 c.loop-i.invariant.moved (omega arith);
 }

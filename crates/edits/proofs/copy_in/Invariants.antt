@@ -1,13 +1,9 @@
--- `copy_in` meets its contract: at i the first i words are those of the source, and the rest are as they were.
-use Rattle.std.proofs.Common.{length, ◌-◌, ◌≡◌, ◌++◌, ◌≤◌, take, drop}
+-- At i the first i words are those of the source, and the rest are as they were.
+use Rattle.std.proofs.Common.{length, ◌≡◌, ◌++◌, take, drop}
 use Rattle.edits.proofs.copy_in.Given as goal
 
 abbrev pub invariant-loop-i : goal.invariant-loop-i
 invariant-loop-i l = record {
-  in_source : l.i ≤ length l.src;
   same_length : length l.dst ≡ length l.initial.dst;
   copied : l.dst ≡ take l.i l.src ++ drop l.i l.initial.dst;
 }
-
-abbrev pub decreases-loop-i : goal.decreases-loop-i
-decreases-loop-i l = length l.src - l.i

@@ -1,38 +1,27 @@
--- By the number of blanks, and by the first item, which decides whose reader reads the line.
-use Rattle.std.proofs.Common.{sym, ap, ◌∙◌, arith}
-use borrow.Author.Tests.{eq-eqb, ne_eqb}
+-- By whether the line has seven items, and by the first, which decides whose reader reads the line.
+use Rattle.std.proofs.Common.{refl, sym, ◌∙◌}
 use Rattle.lines.specs.Lines as lines
-use Rattle.lines.specs.Read.{meant_op}
-use Rattle.lines.proofs.Readers.{unread}
+use Rattle.lines.proofs.Readers.{line_by, seek_by}
 use Rattle.lines.proofs.read_line.Goals as goal
 
-pub returns-then-blanks-ne6 : goal.returns-then-blanks-ne6
+pub returns-in_err-items : goal.returns-in_err-items
 unfolding lines.read_line
-returns-then-blanks-ne6 c = unread (rw (ne_eqb (lines.blanks c.args.line.now) 6 (omega arith)))
+returns-in_err-items c = rw (c.from_residual.ensures, c.in_err-items.ensures) (record { is = refl; in_range = tt })
 
-pub returns-then-item_is : goal.returns-then-item_is
-unfolding lines.read_line
-returns-then-item_is c =
-    rw (eq-eqb (lines.blanks c.args.line.now) 6 (omega arith), sym c.item_is.ensures ∙ c.if-item_is.true) (c.read_give.ensures _)
+pub returns-then-same : goal.returns-then-same
+returns-then-same c = rw (line_by _ _ c.in_ok-items.ensures, sym c.same.ensures ∙ c.if-same.true) (c.read_give.ensures _)
 
-pub returns-then-item_is-2 : goal.returns-then-item_is-2
-unfolding lines.read_line
-returns-then-item_is-2 c =
-    rw
-    (eq-eqb (lines.blanks c.args.line.now) 6 (omega arith), sym c.item_is.ensures ∙ c.if-item_is.false, sym c.item_is-2.ensures ∙ c.if-item_is-2.true)
+pub returns-then-same-2 : goal.returns-then-same-2
+returns-then-same-2 c =
+    rw (line_by _ _ c.in_ok-items.ensures, sym c.same.ensures ∙ c.if-same.false, sym c.same-2.ensures ∙ c.if-same-2.true)
     c.read_put.ensures
 
-pub returns-in_default : goal.returns-in_default
-unfolding lines.read_line
-returns-in_default c =
-    let op = sym c.op_in.ensures ∙ ap meant_op c.in_default.is in
-    unread
-    (rw (eq-eqb (lines.blanks c.args.line.now) 6 (omega arith), sym c.item_is.ensures ∙ c.if-item_is.false, sym c.item_is-2.ensures ∙ c.if-item_is-2.false, op))
+pub returns-in_err-op_in : goal.returns-in_err-op_in
+returns-in_err-op_in c =
+    rw (line_by _ _ c.in_ok-items.ensures, sym c.same.ensures ∙ c.if-same.false, sym c.same-2.ensures ∙ c.if-same-2.false)
+    (rw (← c.in_err-op_in.ensures, c.from_residual-in_err-op_in.ensures) (record { is = refl; in_range = tt }))
 
 pub returns : goal.returns
-unfolding lines.read_line
 returns c =
-    let op = sym c.op_in.ensures ∙ ap meant_op c.in-Value.is in
-    rw
-    (eq-eqb (lines.blanks c.args.line.now) 6 (omega arith), sym c.item_is.ensures ∙ c.if-item_is.false, sym c.item_is-2.ensures ∙ c.if-item_is-2.false, op)
-    c.read_seek.ensures
+    rw (line_by _ _ c.in_ok-items.ensures, sym c.same.ensures ∙ c.if-same.false, sym c.same-2.ensures ∙ c.if-same-2.false)
+    (rw (← c.in_ok-op_in.ensures, seek_by _ _ c.in_ok-items.ensures) c.read_seek.ensures)

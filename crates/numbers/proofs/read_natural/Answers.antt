@@ -1,39 +1,28 @@
--- At byte i the value of the digits so far and what is left to read decide the answer; the value stays below what 64 bits hold.
-use Rattle.std.proofs.Common.{sym, ap, ◌∙◌, arith}
-use Rattle.numbers.specs.Answers.{natural_of}
-use Rattle.numbers.proofs.Digits.{starts, starts-ill, next, no_digit, ends, ends-past, digit-bound}
+-- At each byte the value of the digits so far and what is left to read decide; the value stays below what 64 bits hold.
+use Rattle.std.proofs.Common.{sym, ◌∙◌, arith}
+use Rattle.numbers.proofs.Digits.{starts, starts-ill, digit-next, no_digit, ends, ends-past, digit-bound}
 use Rattle.numbers.proofs.read_natural.Goals as goal
 
-pub returns-then-not-starts_well : goal.returns-then-not-starts_well
-unfolding natural_of
-returns-then-not-starts_well c = ap (natural_of _) (sym (starts-ill _ (sym c.starts_well.ensures ∙ c.if-not-starts_well.true)))
+pub returns-then-not-starts_well-clause-value : goal.returns-then-not-starts_well-clause-value
+returns-then-not-starts_well-clause-value c = sym (starts-ill _ _ (sym (c.if-not-starts_well.ensures)))
 
-pub loop-i-init : goal.loop-i-init
-loop-i-init c = record {
-  within = omega arith;
-  bound = omega arith;
-  left = starts _ _ (sym c.starts_well.ensures ∙ c.if-not-starts_well.false);
-}
+pub loop-b-init : goal.loop-b-init
+loop-b-init c = record { bound = omega arith; left = starts _ _ (sym (c.if-not-starts_well.ensures)) }
 
-pub returns-then-not-is_digit : goal.returns-then-not-is_digit
-returns-then-not-is_digit c =
-    sym (c.loop-i.invariant.left ∙ no_digit _ _ _ _ c.loop-i-test.true (sym c.is_digit.ensures ∙ c.if-not-is_digit.true))
+pub returns-then-not-is_digit-clause-value : goal.returns-then-not-is_digit-clause-value
+returns-then-not-is_digit-clause-value c =
+    sym (c.loop-b.invariant.left ∙ no_digit _ _ _ _ c.loop-b-test.true (sym (c.if-not-is_digit.ensures)))
 
-pub with_digit-value-requires : goal.with_digit-value-requires
-with_digit-value-requires c = (sym c.is_digit.ensures ∙ c.if-not-is_digit.false, c.loop-i.invariant.bound)
-
-pub loop-i-preserved : goal.loop-i-preserved
-loop-i-preserved c =
-    let l = c.loop-i.invariant in
-    let digit = sym c.is_digit.ensures ∙ c.if-not-is_digit.false in
+pub loop-b-preserved : goal.loop-b-preserved
+loop-b-preserved c =
+    let digit = sym (c.if-not-is_digit.ensures) in
     rw c.with_digit-value.ensures record {
-      within = omega arith;
-      bound = digit-bound _ _ _ digit l.bound;
-      left = l.left ∙ next _ _ _ _ c.loop-i-test.true digit;
+      bound = digit-bound _ _ _ digit c.loop-b.invariant.bound;
+      left = c.loop-b.invariant.left ∙ digit-next _ _ _ _ c.loop-b-test.true digit;
     }
 
-pub returns-then-most-value : goal.returns-then-most-value
-returns-then-most-value c = sym (c.loop-i.invariant.left ∙ ends-past _ _ _ _ c.loop-i-test.false c.if-most-value.true)
+pub returns-then-most-value-clause-value : goal.returns-then-most-value-clause-value
+returns-then-most-value-clause-value c = sym (c.loop-b.invariant.left ∙ ends-past _ _ _ _ c.loop-b-test.false c.if-most-value.true)
 
-pub returns : goal.returns
-returns c = sym (c.loop-i.invariant.left ∙ ends _ _ _ _ c.loop-i-test.false c.if-most-value.false)
+pub returns-clause-value : goal.returns-clause-value
+returns-clause-value c = sym (c.loop-b.invariant.left ∙ ends _ _ _ _ c.loop-b-test.false c.if-most-value.false)

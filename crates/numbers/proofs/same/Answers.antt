@@ -6,15 +6,12 @@ use Rattle.numbers.proofs.same.Goals as goal
 pub returns-then-a-b : goal.returns-then-a-b
 returns-then-a-b c = sym (other_length c.args.a.now c.args.b.now c.if-a-b.true)
 
-pub returns-then-a-i : goal.returns-then-a-i
-returns-then-a-i c =
-    sym (c.loop-i.invariant.left ∙ byte-differs c.args.a.now c.args.b.now c.loop-i.i c.loop-i-test.true (omega arith) c.if-a-i.true)
+pub returns-then-x-b : goal.returns-then-x-b
+returns-then-x-b c =
+    sym (c.loop-i.invariant ∙ byte-differs c.args.a.now c.args.b.now c.loop-i.i c.loop-i-test.true (omega arith) c.if-x-b.true)
 
 pub loop-i-preserved : goal.loop-i-preserved
-loop-i-preserved c = record {
-  within = omega arith;
-  left = c.loop-i.invariant.left ∙ byte-agrees c.args.a.now c.args.b.now c.loop-i.i c.loop-i-test.true (omega arith) c.if-a-i.false;
-}
+loop-i-preserved c = c.loop-i.invariant ∙ byte-agrees c.args.a.now c.args.b.now c.loop-i.i c.loop-i-test.true (omega arith) c.if-x-b.false
 
 pub returns : goal.returns
-returns c = sym (c.loop-i.invariant.left ∙ none-differs _ _ _ c.loop-i-test.false (omega arith))
+returns c = sym (c.loop-i.invariant ∙ none-differs c.args.a.now c.args.b.now c.loop-i.i (omega arith) (omega arith))

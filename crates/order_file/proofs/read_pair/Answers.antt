@@ -1,29 +1,23 @@
--- Item by item: where the line ends too early or too late it can't be read, and else its two items are.
-use Rattle.std.proofs.Common.{sym, ap, ◌∙◌, arith}
-use Rattle.order_file.specs.Answers.{party_in, line_is}
-use Rattle.order_file.proofs.Pairs.{first-end, one-item, more-items, two_items, unread, pair_read}
+-- Item by item: without a blank the line can't be read, and else its two items are.
+use Rattle.std.proofs.Common.{sym, ap, ◌∙◌}
+use Rattle.order_file.specs.Answers.{word_in}
+use Rattle.order_file.proofs.Pairs.{one-item, two_items, first_unread, second-unread, pair_read}
 use Rattle.order_file.proofs.read_pair.Goals as goal
 
-pub returns-then-a-line : goal.returns-then-a-line
-returns-then-a-line c = ap line_is (sym (one-item c.args.line.now _ c.part_end-a.ensures c.if-a-line.true))
+pub returns-in_err-first : goal.returns-in_err-first
+returns-in_err-first c = c.from_residual.ensures ∙ ap word_in (sym (one-item c.args.line.now c.in_err-first.ensures.parts))
 
-pub overflow_add-a : goal.overflow_add-a
-overflow_add-a c = let l = first-end c.args.line.now _ c.part_end-a.ensures in omega arith
+pub returns-in_err-party : goal.returns-in_err-party
+returns-in_err-party c =
+    let items = two_items c.args.line.now c.in_ok-first.first.now c.in_ok-first.second.now c.in_ok-first.ensures.parts in
+    c.from_residual-in_err-party.ensures ∙ first_unread _ _ (sym c.party.ensures.value ∙ c.in_err-party.was) ∙ ap word_in (sym items)
 
-pub returns-then-b-line : goal.returns-then-b-line
-returns-then-b-line c =
-    ap line_is (sym (more-items c.args.line.now _ c.part_end-a.ensures c.if-a-line.false _ c.part_end-b.ensures c.if-b-line.true))
-
-pub returns-then-first-second : goal.returns-then-first-second
-returns-then-first-second c =
-    let items = two_items c.args.line.now _ c.part_end-a.ensures c.if-a-line.false _ c.part_end-b.ensures c.if-b-line.false in
-    let first = c.party-first.ensures ∙ ap party_in c.read_natural.ensures in
-    let second = c.party-second.ensures ∙ ap party_in c.read_natural-2.ensures in
-    ap line_is (sym (items ∙ unread _ _ _ _ first second c.if-first-second.true))
+pub returns-in_err-party-2 : goal.returns-in_err-party-2
+returns-in_err-party-2 c =
+    let items = two_items c.args.line.now c.in_ok-first.first.now c.in_ok-first.second.now c.in_ok-first.ensures.parts in
+    c.from_residual-in_err-party-2.ensures ∙ second-unread _ _ (sym c.party-2.ensures.value ∙ c.in_err-party-2.was) ∙ ap word_in (sym items)
 
 pub returns : goal.returns
 returns c =
-    let items = two_items c.args.line.now _ c.part_end-a.ensures c.if-a-line.false _ c.part_end-b.ensures c.if-b-line.false in
-    let first = c.party-first.ensures ∙ ap party_in c.read_natural.ensures in
-    let second = c.party-second.ensures ∙ ap party_in c.read_natural-2.ensures in
-    pair_read _ _ _ _ first second c.if-first-second.false ∙ ap line_is (sym items)
+    let items = two_items c.args.line.now c.in_ok-first.first.now c.in_ok-first.second.now c.in_ok-first.ensures.parts in
+    pair_read _ _ _ _ (sym c.party.ensures.value ∙ c.in_ok-party.was) (sym c.party-2.ensures.value ∙ c.in_ok-party-2.was) ∙ ap word_in (sym items)

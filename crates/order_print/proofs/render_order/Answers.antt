@@ -1,7 +1,6 @@
 -- Its three parts are written one after another.
-use Rattle.std.proofs.Common.{ℕ, List, [], ◌∷◌, ◌++◌, ◌≤◌, length}
-use Rattle.numbers.specs.Written.{Written}
-use Rattle.numbers.proofs.Placed.{Unfinished, begun-front, part_room, part-done}
+use Rattle.std.proofs.Common.{ℕ, List, [], ◌∷◌, ◌++◌, ◌+◌, ◌≤◌, length}
+use Rattle.numbers.proofs.Placed.{Unfinished, begun, part_room, part-done}
 use Rattle.order_print.specs.Printed.{parties_text, order_text}
 use Rattle.order_print.proofs.render_order.Goals as goal
 
@@ -9,31 +8,24 @@ use Rattle.order_print.proofs.render_order.Goals as goal
 abbrev word : List ℕ
 word = 111 ∷ 114 ∷ 100 ∷ 101 ∷ 114 ∷ []
 
--- the order's text, of which `left` is still to be written from `at` on
-abbrev Writing : List ℕ → List ℕ → List ℕ → ℕ → List ℕ → Type 0
-Writing out₀ ps out at left = Unfinished out₀ 0 (order_text ps) out at left
-
-start : (out ps : List ℕ) → length (order_text ps) ≤ length out → Writing out ps out 0 (word ++ (parties_text ps ++ (10 ∷ [])))
+start : (out : List ℕ) (at : ℕ) (ps : List ℕ) → at + length (order_text ps) ≤ length out → Unfinished out at (order_text ps) out at (word ++ (parties_text ps ++ (10 ∷ [])))
 unfolding order_text
-start out ps h = begun-front _ _ h
-
-module _ (out ps : List ℕ) (h : length (order_text ps) ≤ length out) (a : List ℕ) (at : ℕ) (v : Written out 0 word a at) where
-  after-word : Writing out ps a at (parties_text ps ++ (10 ∷ []))
-  after-word = part-done word _ (start out ps h) v
-
-  after-parties : (b : List ℕ) (end : ℕ) → Written a at (parties_text ps) b end → Writing out ps b end (10 ∷ [])
-  after-parties b end w = part-done (parties_text ps) _ after-word w
-
-pub place-a-requires : goal.place-a-requires
-place-a-requires c = part_room word _ (start c.args.out.now c.args.places.now c.requires)
-
-pub render_parties-b-requires : goal.render_parties-b-requires
-render_parties-b-requires c =
-    part_room (parties_text c.args.places.now) _ (after-word c.args.out.now c.args.places.now c.requires _ _ c.place-a.ensures)
+start out at ps h = begun out at _ h
 
 pub place-requires : goal.place-requires
-place-requires c = (after-parties c.args.out.now c.args.places.now c.requires _ _ c.place-a.ensures _ _ c.render_parties-b.ensures).room
+place-requires c = part_room word _ (start _ _ c.args.places.now c.requires)
 
-pub returns : goal.returns
-returns c =
-    (after-parties c.args.out.now c.args.places.now c.requires _ _ c.place-a.ensures _ _ c.render_parties-b.ensures).completes _ _ c.place.ensures
+pub render_parties-requires : goal.render_parties-requires
+render_parties-requires c =
+    part_room (parties_text c.args.places.now) _ (part-done word _ (start _ _ c.args.places.now c.requires) c.place.ensures.written)
+
+pub place-requires-2 : goal.place-requires-2
+place-requires-2 c =
+    let ps : List ℕ = c.args.places.now in
+    (part-done (parties_text ps) _ (part-done word _ (start _ _ ps c.requires) c.place.ensures.written) c.render_parties.ensures.written).room
+
+pub returns-clause-written : goal.returns-clause-written
+returns-clause-written c =
+    let ps : List ℕ = c.args.places.now in
+    let u = part-done (parties_text ps) _ (part-done word _ (start _ _ ps c.requires) c.place.ensures.written) c.render_parties.ensures.written in
+    u.completes _ _ c.place-2.ensures.written

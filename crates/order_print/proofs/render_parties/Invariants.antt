@@ -1,14 +1,12 @@
--- At i the blanks and the numbers of the parties before i are written.
-use Rattle.std.proofs.Common.{length, drop, ◌-◌, ◌≤◌}
+-- The blanks and the numbers of the parties so far are written, and the rest is left.
+use Rattle.std.proofs.Common.{◌≡◌, length, drop}
 use Rattle.numbers.proofs.Placed.{Unfinished}
 use Rattle.order_print.specs.Printed.{parties_text}
 use Rattle.order_print.proofs.render_parties.Given as goal
 
-abbrev pub invariant-loop-i : goal.invariant-loop-i
-invariant-loop-i l = record {
-  within : l.i ≤ length l.parties;
-  left : Unfinished l.fn.out l.at (parties_text l.parties) l.out l.end (parties_text (drop l.i l.parties));
+abbrev pub invariant-loop-party : goal.invariant-loop-party
+invariant-loop-party l = record {
+  left : Unfinished l.fn.out.bytes.now l.fn.out.at (parties_text l.parties) l.out.bytes.now l.out.at (parties_text (drop l.party-index l.parties));
+  len : length l.out.bytes.now ≡ length l.fn.out.bytes.now;
+  same_reference : l.out.bytes.ghost_name ≡ l.fn.out.bytes.ghost_name;
 }
-
-abbrev pub decreases-loop-i : goal.decreases-loop-i
-decreases-loop-i l = length l.parties - l.i

@@ -1,15 +1,14 @@
--- The words hold what the lines so far have given, and the lines from `at` on are left: line by line what both come to stays the same.
-use Rattle.std.proofs.Common.{◌≡◌, ◌-◌, ◌≤◌, length, drop}
+-- What the lines that are left come to, with what the words hold now, stays the same line by line.
+use Rattle.std.proofs.Common.{◌≡◌, length}
 use Rattle.numbers.specs.Parts.{parts}
 use Rattle.roster_file.specs.File.{read_lines}
 use Rattle.roster_file.proofs.read_lines.Given as goal
 
-abbrev pub invariant-loop-at : goal.invariant-loop-at
-invariant-loop-at l = record {
-  within : l.at ≤ length l.file;
+abbrev pub invariant-loop-lines : goal.invariant-loop-lines
+invariant-loop-lines l = record {
   sixteen : length l.words ≡ 16;
-  reads : read_lines l.fn.words (parts 10 (drop l.fn.from l.file)) ≡ read_lines l.words (parts 10 (drop l.at l.file));
+  reads : read_lines l.fn.words (parts 10 l.fn.file) ≡ read_lines l.words (parts 10 l.lines);
 }
 
-abbrev pub decreases-loop-at : goal.decreases-loop-at
-decreases-loop-at l = length l.file - l.at
+abbrev pub decreases-loop-lines : goal.decreases-loop-lines
+decreases-loop-lines l = length l.lines

@@ -1,34 +1,9 @@
--- By the bytes before the number: a party, a blank, a kind and a blank.
-use Rattle.std.proofs.Common.{◌≡◌, ℕ, ◌≤◌, false, ◌||◌, not, eqb, ltb, arith}
-use borrow.Author.Tests.{not-false, eqb-true, ltb-false}
-use Rattle.rules.proofs.ListLaws.{or_left, or_right}
-use Rattle.roster_file.proofs.UsualLines.{plain-line, minus-line}
+-- By the bytes before the name: a party and a blank.
+use Rattle.std.proofs.Common.{arith, refl}
+use Rattle.roster_file.proofs.UsualLines.{first_two, line-at}
 use Rattle.roster_file.proofs.usual_line.Goals as goal
 
--- the bytes that were tested
-module _ (b : ℕ) (h : (ltb b 48 || ltb 55 b) ≡ false) where
-  low : 48 ≤ b
-  low = ltb-false b 48 (or_left (ltb b 48) (ltb 55 b) h)
-
-  high : b ≤ 55
-  high = ltb-false 55 b (or_right (ltb b 48) (ltb 55 b) h)
-
-module _ (a b : ℕ) (h : (not (eqb a 32) || not (eqb b 32)) ≡ false) where
-  first : a ≡ 32
-  first = eqb-true a 32 (not-false _ (or_left (not (eqb a 32)) (not (eqb b 32)) h))
-
-  second : b ≡ 32
-  second = eqb-true b 32 (not-false _ (or_right (not (eqb a 32)) (not (eqb b 32)) h))
-
-pub returns-then-file-at-eq45 : goal.returns-then-file-at-eq45
-returns-then-file-at-eq45 c =
-    let p = c.if-party.false in
-    let b = c.if-file-at.false in
-    minus-line c.args.file.now c.args.at (omega arith) (low _ p) (high _ p) (first _ _ b) (second _ _ b) c.if-file-at-eq45.true c.usual_name.result
+pub returns-in-48-to-55 : goal.returns-in-48-to-55
+returns-in-48-to-55 c =
+    line-at c.args.lines.now _ _ _ (omega arith) (omega arith) (first_two c.args.lines.now _ 32 c.in-48-to-55.len_at_least refl (omega arith))
     c.usual_name.ensures
-
-pub returns : goal.returns
-returns c =
-    let p = c.if-party.false in
-    let b = c.if-file-at.false in
-    plain-line c.args.file.now c.args.at (omega arith) (low _ p) (high _ p) (first _ _ b) (second _ _ b) c.usual_name-2.result c.usual_name-2.ensures

@@ -5,20 +5,17 @@ use Rattle.roster_print.proofs.Outcomes.{given-output, refused-short, refused-ou
 use Rattle.roster_print.proofs.set_up.Goals as goal
 
 pub render_roster-requires : goal.render_roster-requires
-render_roster-requires c = let l = printed-short c.read_roster-read.new.roster in (omega arith, omega arith)
+render_roster-requires c = let l = printed-short c.read_roster.new.roster in omega arith
 
-pub render_refusal-requires : goal.render_refusal-requires
-render_refusal-requires c =
-    let r = c.read_roster-read in
-    let l = refused-short c.args.file.now c.args.roster.now r.result r.new.roster r.ensures _ c.in-Refused.is in
+pub refusal-requires : goal.refusal-requires
+refusal-requires c =
+    let l = refused-short c.args.file.now c.args.roster.now c.read_roster.new.roster c.in-Err.refusal c.in-Err.ensures in
     omega (arith, l)
 
-pub returns-in-Given-clause-written : goal.returns-in-Given-clause-written
-returns-in-Given-clause-written c =
-    let r = c.read_roster-read in
-    given-output c.args.file.now c.args.roster.now r.result r.new.roster r.ensures c.in-Given.is _ _ _ c.render_roster.ensures
+pub returns-in-Ok-clause-written : goal.returns-in-Ok-clause-written
+returns-in-Ok-clause-written c =
+    given-output c.args.file.now c.args.roster.now c.read_roster.new.roster c.in-Ok.ensures _ _ _ _ c.render_roster.ensures.written
 
-pub returns-in-Refused-clause-written : goal.returns-in-Refused-clause-written
-returns-in-Refused-clause-written c =
-    let r = c.read_roster-read in
-    refused-output c.args.file.now c.args.roster.now r.result r.new.roster r.ensures _ c.in-Refused.is _ _ _ c.render_refusal.ensures
+pub returns-in-Err-clause-written : goal.returns-in-Err-clause-written
+returns-in-Err-clause-written c =
+    refused-output c.args.file.now c.args.roster.now c.read_roster.new.roster c.in-Err.refusal c.in-Err.ensures _ _ _ _ c.refusal.ensures.written

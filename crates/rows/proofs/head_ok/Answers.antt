@@ -1,4 +1,4 @@
--- `head_ok` meets its contract: its tests are the definition's, the count's first.
+-- `head_ok` meets its contract: its tests are the definition's, the count's first. (The check finds it alone; with this a wrong test is refused at that test.)
 use Rattle.rows.proofs.RowLaws.{count-first}
 use Rattle.rows.proofs.head_ok.Goals as goal
 

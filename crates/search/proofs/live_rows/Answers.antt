@@ -6,5 +6,5 @@ use Rattle.search.proofs.live_rows.Goals as goal
 pub bounds-space-0 : goal.bounds-space-0
 bounds-space-0 c = omega (arith, (sound-facts _ c.requires).len)
 
-pub returns-then-live-gt128 : goal.returns-then-live-gt128
-returns-then-live-gt128 c = absurd (omega (arith, (sound-facts _ c.requires).count))
+pub returns : goal.returns
+returns c = omega (arith, (sound-facts _ c.requires).count)

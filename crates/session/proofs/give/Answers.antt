@@ -1,4 +1,4 @@
--- `give` meets its contract: it is too late once the space is open; before, the partition is added and then the key.
+-- Before the space is open the partition is added, and then the key.
 use Rattle.std.proofs.Common.{refl, ap, ◌∙◌, List, ℕ, ◌+◌}
 use Rattle.session.specs.Transcript.{with_name, given}
 use Rattle.lines.specs.Read.{name_of}
@@ -8,4 +8,4 @@ pub returns : goal.returns
 unfolding given
 returns c =
     let gift = c.add_name-2.ensures ∙ ap (λ (l : List ℕ). with_name (8 + c.args.party) (name_of c.args.key) l) c.add_name.ensures in
-    (c.if-opened.false, gift, refl, refl)
+    (c.in-Giving.is, gift, rw c.in-Giving.is refl)

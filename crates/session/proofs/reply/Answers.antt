@@ -1,5 +1,5 @@
--- `reply` meets its contract: the call is made with eight empty result words, and its reply has room in the lent bytes.
-use Rattle.std.proofs.Common.{refl, arith}
+-- The call is made with eight empty result words, and its reply has room in the lent bytes.
+use Rattle.std.proofs.Common.{refl}
 use Rattle.rules.specs.Words.{zeros}
 use Rattle.space.proofs.Small.{call-small}
 use Rattle.session.proofs.Bounds.{reply-room, count_room, replied}
@@ -12,8 +12,7 @@ make-answer-requires c = (c.requires.1, refl)
 pub render_reply-requires : goal.render_reply-requires
 render_reply-requires c =
     let m = c.make-answer.ensures in
-    let few = count_room 0 _ _ _ _ m (call-small _ _) in
-    (omega (arith, few, c.make-answer.auto.res), reply-room c.args.number _ _ _ _ m _ c.requires.0 c.requires.2 (call-small _ _))
+    (count_room 0 _ _ _ _ m (call-small _ _), reply-room c.args.number _ _ _ _ m _ c.requires.0 c.requires.2 (call-small _ _))
 
 pub returns : goal.returns
 returns c = replied _ _ _ _ _ c.make-answer.ensures c.render_reply.ensures

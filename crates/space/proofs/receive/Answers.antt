@@ -1,14 +1,27 @@
 -- `receive` meets its contract: what was obtained is what a receive answers and leaves.
-use Rattle.std.proofs.Common.{◌∙◌, w32}
-use Rattle.std.proofs.lemmas.Int.{to_z-of_z}
-use Rattle.rules.specs.Matching.{pair, receiving}
-use Rattle.space.proofs.Seeking.{sought-key, obtaining, receive-call}
+use Rattle.std.proofs.Common.{◌∙◌, refl, ap, ℕ, length}
+use Rattle.std.specs.Prelude.{Option, Ok, Err}
+use Rattle.std.proofs.lemmas.Result.{err_from_is_err_and}
+use Rattle.refusal.specs.Numbers.{number}
+use Rattle.rules.specs.Matching.{receiving}
+use Rattle.words.specs.Pairs.{meant}
+use Rattle.space.specs.Answers.{found_meant}
+use Rattle.space.proofs.Seeking.{counted, obtaining, receive-call}
 use Rattle.space.proofs.receive.Goals as goal
+
+pub returns-in_err-found : goal.returns-in_err-found
+returns-in_err-found c =
+    let a = c.args in
+    let p = err_from_is_err_and c.from_residual.result c.from_residual.ensures.1 in
+    let got = c.in_err-found.ensures in
+    rw (p.1, p.2)
+    (obtaining a.space.now receiving a.party (meant a.pair) a.fields.now a.res.now (Err (number c.in_err-found.field-0.0)) _ _ _ refl got.space_after got.res_after
+    ∙ receive-call _ _ _ _ a.res.now (Err (number c.in_err-found.field-0.0)) got.value)
 
 pub returns : goal.returns
 returns c =
     let a = c.args in
-    let p = pair a.partitions a.key in
-    obtaining a.space.now receiving a.party p a.fields.now a.res.now c.obtain-found.result _ _ _ c.answer_of.ensures
-    c.obtain-found.ensures.space_after c.obtain-found.ensures.res_after
-    ∙ receive-call _ _ _ _ a.res.now _ (sought-key _ _ _ _ _ _ _ _ _ (to_z-of_z w32 a.key c.ranges.key) c.obtain-found.ensures.value)
+    let got = c.in_ok-found.ensures in
+    obtaining a.space.now receiving a.party (meant a.pair) a.fields.now a.res.now (Ok c.in_ok-found.found) _ _ _
+    (ap (λ (o : Option ℕ). found_meant (Ok o)) c.and.ensures ∙ counted c.in_ok-found.found (length a.fields.now)) got.space_after got.res_after
+    ∙ receive-call _ _ _ _ a.res.now (Ok c.in_ok-found.found) got.value

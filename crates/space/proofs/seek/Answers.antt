@@ -1,34 +1,29 @@
 -- `seek` meets its contract: the verdict is the table's, the search by the stored co-key is the search by the pair, and
 -- the copied words are the found entry's fields.
-use Rattle.std.proofs.Common.{◌≡◌, ℕ, ℤ, ◌-◌, ◌≤◌, ◌<◌, refl, sym, ap, ap₂, ◌∙◌, subst, inl, inr, Bool, true, not, List, [], ◌∷◌, ◌++◌, length, take, drop, w32}
-use Rattle.std.proofs.Math.Option.{none}
+use Rattle.std.proofs.Common.{◌≡◌, ℕ, ℤ, ◌-◌, ◌≤◌, ◌<◌, sym, ap, ap₂, ◌∙◌, subst, Bool, true, not, List, ◌∷◌, ◌++◌, length, take, drop}
+use Rattle.std.proofs.Math.Option as rule
 use Rattle.std.proofs.Math.Seq.{take-length}
-use Rattle.std.proofs.lemmas.Int.{to_z-of_z}
 use native.Mathlib.Nat.{sub-zero}
-use denote.Enum.Declared.{tag_of}
-use types.Run.{OneOf}
+use borrow.Author.Tests.{not-true}
+use Rattle.std.specs.Prelude.{Option, Some, Result, Ok, Err}
+use Rattle.std.proofs.lemmas.Result.{err_from_is_err_and}
 use Rattle.rules.specs.Lists.{all}
 use Rattle.rules.specs.Names.{key_in_range, co_key, stored, co_stored}
 use Rattle.rules.specs.Partitions.{sets}
-use Rattle.rules.specs.Matching.{pair, Op, matches}
+use Rattle.rules.specs.Matching.{Pair, pair, Op, matches}
 use Rattle.rules.specs.Calls.{Table, first_that_applies, seek_table}
 use Rattle.rules.specs.Words.{decode, sound}
 use Rattle.rules.proofs.KeyLaws.{stored-le, co-in-range, co-co}
 use Rattle.rules.proofs.Back.{sound-facts}
+use Rattle.rules.proofs.ListLaws.{not-false}
 use Rattle.words.specs.Kind.{plain}
+use Rattle.words.specs.Pairs as words
 use Rattle.held.specs.Verdicts.{verdict}
-use Rattle.held.specs.declared.Verdict.{Verdict}
-use Rattle.held.specs.declared.Verdict.TheVariants.{Passed}
-use Rattle.refusals.specs.Admissions.{admitted_by, bounds_in}
-use Rattle.refusals.specs.declared.Admission.{Admission}
-use Rattle.refusals.specs.declared.Admission.TheVariants as admission
-use Rattle.refusals.specs.contracts.Admission.{the_type}
-use Rattle.refusals.proofs.Tables.{verdict-refused, verdict-passed, admitted-refused, admitted-passed, bounds-admitted}
+use Rattle.refusals.specs.Admissions.{admitted_by}
+use Rattle.refusals.proofs.Tables.{verdict-refused, verdict-passed}
 use Rattle.search.specs.Place.{meant, place}
-use Rattle.search.specs.declared.Found.{Found}
-use Rattle.space.specs.Answers.{at_place, sought_in, fields_at}
-use Rattle.space.specs.declared.Sought.TheVariants.{At, Refused}
-use Rattle.space.proofs.Passed.{SeekPassed, seek-passed}
+use Rattle.space.specs.Answers.{sought_in, fields_at}
+use Rattle.space.proofs.Passed.{SeekPassed, seek-passed, admitted-refused, admitted-passed}
 use Rattle.space.proofs.Seeking.{sought-refused, sought-placed, found-low}
 use Rattle.space.proofs.seek.Goals as goal
 
@@ -39,118 +34,101 @@ lent l = take (length l - 0) l
 lent_is : (l : List ℕ) → lent l ≡ l
 lent_is l = ap (λ (n : ℕ). take n l) (sub-zero (length l)) ∙ take-length l
 
--- an admission that is no refusal, by its tag
-unrefused : (a : Admission) → ((n : ℕ) → a ≡ admission.Refused n → ⊥) → OneOf (0 ∷ 1 ∷ []) (tag_of the_type a)
-unrefused admission.Plain other = inl refl
-unrefused admission.Bounded other = inr refl
-unrefused (admission.Refused n) other = absurd (other n refl)
+-- a call, with the words that it lends on
+module _ (ws : List ℕ) (op : Op) (who : ℕ) (p : Pair ℤ) (t result : List ℕ) where
+  -- the call's table by the space and its template, and how it is admitted
+  table_of : List ℕ → List ℕ → Table
+  table_of ws t = (not (sound ws), 1) ∷ seek_table sets (decode ws) who p t (length result)
 
--- a call with the key k, and with it as the machine reads it back from its bits
-module _ (ws : List ℕ) (op : Op) (who c : ℕ) (k k' : ℤ) (p : k' ≡ k) (t result : List ℕ) where
-  -- the call's table by the space, its key and its template, and how it is admitted
-  table_of : List ℕ → ℤ → List ℕ → Table
-  table_of ws k t = (not (sound ws), 1) ∷ seek_table sets (decode ws) who (pair c k) t (length result)
+  admitted : List ℕ → List ℕ → Result Bool ℕ
+  admitted ws t = admitted_by (verdict (table_of ws t)) (all plain t)
 
-  admitted : List ℕ → ℤ → List ℕ → Admission
-  admitted ws k t = admitted_by (verdict (table_of ws k t)) (all plain t)
+  admission-is : (a : Result Bool ℕ) → a ≡ admitted (lent ws) (lent t) → a ≡ admitted ws t
+  admission-is a e = e ∙ ap₂ admitted (lent_is ws) (lent_is t)
 
-  admission-is : (a : Admission) → a ≡ admitted (lent ws) k' (lent t) → a ≡ admitted ws k t
-  admission-is a e = e ∙ ap (λ (ws : List ℕ). admitted ws k' (lent t)) (lent_is ws) ∙ ap₂ (admitted ws) p (lent_is t)
-
-  refused : (n : ℕ) → admission.Refused n ≡ admitted (lent ws) k' (lent t) → Refused n ≡ sought_in ws op who (pair c k) t (length result)
+  refused : (n : ℕ) → Err n ≡ admitted (lent ws) (lent t) → Err n ≡ sought_in ws op who p t (length result)
   unfolding admitted table_of
   refused n e =
-      sought-refused ws op who (pair c k) t (length result) n
-      (verdict-refused (table_of ws k t) n (admitted-refused (verdict (table_of ws k t)) (all plain t) n (admission-is _ e)))
+      sought-refused ws op who p t (length result) n
+      (verdict-refused (table_of ws t) n (admitted-refused (verdict (table_of ws t)) (all plain t) n (admission-is _ e)))
 
-  module _ (a : Admission) (e : a ≡ admitted (lent ws) k' (lent t)) (other : (n : ℕ) → a ≡ admission.Refused n → ⊥) where
-    passes : Passed ≡ verdict (table_of ws k t)
+  module _ (b : Bool) (e : Ok b ≡ admitted (lent ws) (lent t)) where
+    told : (Ok tt ≡ verdict (table_of ws t)) × (b ≡ not (all plain t))
     unfolding admitted
-    passes =
-        admitted-passed (verdict (table_of ws k t)) (all plain t)
-        (subst (λ (a : Admission). OneOf (0 ∷ 1 ∷ []) (tag_of the_type a)) (admission-is a e) (unrefused a other))
+    told = admitted-passed (verdict (table_of ws t)) (all plain t) b (admission-is _ e)
 
-    no-refusal : first_that_applies (table_of ws k t) ≡ none
-    no-refusal = verdict-passed (table_of ws k t) passes
+    no-refusal : first_that_applies (table_of ws t) ≡ rule.none
+    no-refusal = verdict-passed (table_of ws t) told.0
 
-    passed : SeekPassed ws who (pair c k) t (length result)
+    passed : SeekPassed ws who p t (length result)
     unfolding table_of
-    passed = seek-passed ws who (pair c k) t (length result) no-refusal
+    passed = seek-passed ws who p t (length result) no-refusal
 
-    in-range : key_in_range k' ≡ true
-    in-range = ap key_in_range p ∙ passed.range
+    in-range : key_in_range p.key ≡ true
+    in-range = passed.range
 
     -- where the template is searched as one without bounds, all its fields are plain
-    unbounded : (b : Bool) → b ≡ bounds_in a → not b ≡ true → all plain t ≡ true
-    unfolding admitted
-    unbounded b f q =
-        let told : b ≡ bounds_in (admitted ws k t) = f ∙ ap bounds_in (admission-is a e) in
-        sym (bounds-admitted (all plain t)) ∙ ap (λ (v : Verdict). not (bounds_in (admitted_by v (all plain t)))) passes ∙ sym (ap not told) ∙ q
+    unbounded : not b ≡ true → all plain t ≡ true
+    unbounded q = not-false (all plain t) (sym told.1 ∙ not-true b q)
 
-    searchable : (y : ℕ) (b : Bool) → y ≡ stored (co_key k') → b ≡ bounds_in a
+    searchable : (y : ℕ) → y ≡ stored (co_key p.key)
         → (sound (lent ws) ≡ true) × (y ≤ 62) × (length (lent t) ≤ 8) × (not b ≡ true → all plain (lent t) ≡ true)
-    searchable y b f g = (
+    searchable y f = (
       ap sound (lent_is ws) ∙ passed.is_sound,
-      subst (λ (n : ℕ). n ≤ 62) (sym (f ∙ ap (λ (k : ℤ). stored (co_key k)) p)) (stored-le (co_key k) (co-in-range k passed.range)),
+      subst (λ (n : ℕ). n ≤ 62) (sym f) (stored-le (co_key p.key) (co-in-range p.key passed.range)),
       subst (λ (t : List ℕ). length t ≤ 8) (sym (lent_is t)) passed.few,
-      λ q. ap (all plain) (lent_is t) ∙ unbounded b g q,
+      λ q. ap (all plain) (lent_is t) ∙ unbounded q,
     )
 
-    placed : (f : Found) (y : ℕ) → y ≡ stored (co_key k')
-        → f ≡ place (matches sets op (pair c (co_stored y)) (lent t)) (decode (lent ws)).entries
-        → at_place f ≡ sought_in ws op who (pair c k) t (length result)
+    placed : (f : Option ℕ) (y : ℕ) → y ≡ stored (co_key p.key)
+        → f ≡ place (matches sets op (pair p.partitions (co_stored y)) (lent t)) (decode (lent ws)).entries
+        → Ok f ≡ sought_in ws op who p t (length result)
     unfolding table_of
     placed f y g h =
-        let by : List ℕ → ℕ → List ℕ → Found = λ ws k t. place (matches sets op (pair c k) t) (decode ws).entries in
-        sought-placed ws op who (pair c k) t (length result) no-refusal f
+        let by : List ℕ → ℕ → List ℕ → Option ℕ = λ ws k t. place (matches sets op (pair p.partitions k) t) (decode ws).entries in
+        sought-placed ws op who p t (length result) no-refusal f
         (h
         ∙ ap (λ (ws : List ℕ). by ws (co_stored y) (lent t)) (lent_is ws)
-        ∙ ap₂ (by ws) (ap co_stored (g ∙ ap (λ (k : ℤ). stored (co_key k)) p) ∙ co-co k passed.range) (lent_is t))
+        ∙ ap₂ (by ws) (ap co_stored g ∙ co-co p.key passed.range) (lent_is t))
 
-    copyable : (r : ℕ) → At r ≡ sought_in ws op who (pair c k) t (length result)
+    copyable : (r : ℕ) → Ok (Some r) ≡ sought_in ws op who p t (length result)
         → (length (lent ws) ≡ 1809) × (r < 128) × (length t ≤ 8) × (length t ≤ length result)
     copyable r f =
-        (ap length (lent_is ws) ∙ (sound-facts ws passed.is_sound).len, found-low ws op who (pair c k) t result r f, passed.few, passed.fits)
+        (ap length (lent_is ws) ∙ (sound-facts ws passed.is_sound).len, found-low ws op who p t result r f, passed.few, passed.fits)
 
-pub returns-in-Refused-clause-value : goal.returns-in-Refused-clause-value
+pub returns-in_err-bounded-clause-value : goal.returns-in_err-bounded-clause-value
 unfolding admitted table_of
-returns-in-Refused-clause-value c =
+returns-in_err-bounded-clause-value c =
     let a = c.args in
-    refused a.space.now (meant a.op) a.party a.partitions a.key _ (to_z-of_z w32 a.key c.ranges.key) a.fields.now a.res.now _ c.in-Refused.ensures
+    let p = err_from_is_err_and c.from_residual.result c.from_residual.ensures.1 in
+    rw (p.1, p.2) (refused a.space.now (meant a.op) a.party (words.meant a.pair) a.fields.now a.res.now _ c.in_err-bounded.ensures)
 
-pub stored_co_key-cokey-requires : goal.stored_co_key-cokey-requires
+pub co_key_of-cokey-requires : goal.co_key_of-cokey-requires
 unfolding admitted table_of
-stored_co_key-cokey-requires c =
-    let a = c.args in
-    in-range a.space.now (meant a.op) a.party a.partitions a.key _ (to_z-of_z w32 a.key c.ranges.key) a.fields.now a.res.now
-    _ c.of_seek-admission.ensures c.in_default.not-Refused
+co_key_of-cokey-requires c =
+    let a = c.args in in-range a.space.now (meant a.op) a.party (words.meant a.pair) a.fields.now a.res.now _ c.in_ok-bounded.ensures
 
 pub search-requires : goal.search-requires
 unfolding admitted table_of
 search-requires c =
     let a = c.args in
-    searchable a.space.now (meant a.op) a.party a.partitions a.key _ (to_z-of_z w32 a.key c.ranges.key) a.fields.now a.res.now
-    _ c.of_seek-admission.ensures c.in_default.not-Refused _ _ c.stored_co_key-cokey.ensures c.has_bounds-bounded.ensures
+    searchable a.space.now (meant a.op) a.party (words.meant a.pair) a.fields.now a.res.now _ c.in_ok-bounded.ensures _
+    c.co_key_of-cokey.ensures
 
-pub returns-in_default-search : goal.returns-in_default-search
+pub returns-in_default-clause-value : goal.returns-in_default-clause-value
 unfolding admitted table_of
-returns-in_default-search c =
+returns-in_default-clause-value c =
     let a = c.args in
-    record {
-      value =
-          placed a.space.now (meant a.op) a.party a.partitions a.key _ (to_z-of_z w32 a.key c.ranges.key) a.fields.now a.res.now
-          _ c.of_seek-admission.ensures c.in_default.not-Refused _ _ c.stored_co_key-cokey.ensures c.in_default-search.ensures;
-      res_after = refl;
-    }
+    placed a.space.now (meant a.op) a.party (words.meant a.pair) a.fields.now a.res.now _ c.in_ok-bounded.ensures _ _
+    c.co_key_of-cokey.ensures c.in_default.ensures
 
 pub copy_out-requires : goal.copy_out-requires
 unfolding admitted table_of
 copy_out-requires c =
     let a = c.args in
-    copyable a.space.now (meant a.op) a.party a.partitions a.key _ (to_z-of_z w32 a.key c.ranges.key) a.fields.now a.res.now
-    _ c.of_seek-admission.ensures c.in_default.not-Refused c.in-At.row
-    (placed a.space.now (meant a.op) a.party a.partitions a.key _ (to_z-of_z w32 a.key c.ranges.key) a.fields.now a.res.now
-    _ c.of_seek-admission.ensures c.in_default.not-Refused _ _ c.stored_co_key-cokey.ensures c.in-At.ensures)
+    copyable a.space.now (meant a.op) a.party (words.meant a.pair) a.fields.now a.res.now _ c.in_ok-bounded.ensures c.in-Some.row
+    (placed a.space.now (meant a.op) a.party (words.meant a.pair) a.fields.now a.res.now _ c.in_ok-bounded.ensures _ _
+    c.co_key_of-cokey.ensures c.in-Some.ensures)
 
 pub returns : goal.returns
 unfolding admitted table_of
@@ -158,9 +136,9 @@ returns c =
     let a = c.args in
     record {
       value =
-          placed a.space.now (meant a.op) a.party a.partitions a.key _ (to_z-of_z w32 a.key c.ranges.key) a.fields.now a.res.now
-          _ c.of_seek-admission.ensures c.in_default.not-Refused _ _ c.stored_co_key-cokey.ensures c.in-At.ensures;
+          placed a.space.now (meant a.op) a.party (words.meant a.pair) a.fields.now a.res.now _ c.in_ok-bounded.ensures _ _
+          c.co_key_of-cokey.ensures c.in-Some.ensures;
       res_after =
           c.copy_out.ensures
-          ∙ ap (λ (ws : List ℕ). fields_at c.in-At.row (length a.fields.now) ws ++ drop (length a.fields.now) a.res.now) (lent_is a.space.now);
+          ∙ ap (λ (ws : List ℕ). fields_at c.in-Some.row (length a.fields.now) ws ++ drop (length a.fields.now) a.res.now) (lent_is a.space.now);
     }

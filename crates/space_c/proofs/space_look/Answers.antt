@@ -1,7 +1,7 @@
--- `space_look` meets its contract: what `look` answers and leaves is what the contract says, and its answers are small enough for a code.
+-- `space_look` meets its contract: the answers of calls are small.
 use Rattle.space.proofs.Small.{call-small}
 use Rattle.space_c.proofs.Bounds.{small}
 use Rattle.space_c.proofs.space_look.Goals as goal
 
-pub code-requires : goal.code-requires
-code-requires c = small c.look.result _ _ _ c.look.ensures (call-small _ _)
+pub found-requires : goal.found-requires
+found-requires c = small _ _ _ _ c.look.ensures (call-small _ _)

@@ -1,15 +1,7 @@
--- At b the first b sets are joined, and the rest are as they were.
-use Rattle.std.proofs.Common.{◌-◌, ◌≡◌, ◌≤◌, ◌++◌, map, length, take, drop}
+-- The first sets are joined, and the rest are as they were.
+use Rattle.std.proofs.Common.{◌≡◌, ◌++◌, map, take, drop}
 use Rattle.start_order.specs.Answers.{joined_by}
 use Rattle.start_order.proofs.join.Given as goal
 
-abbrev pub invariant-loop-b : goal.invariant-loop-b
-invariant-loop-b l =
-    record {
-      within : l.b ≤ 8;
-      eight : length l.waits ≡ 8;
-      so_far : l.waits ≡ take l.b (map (joined_by l.via l.k) l.fn.waits) ++ drop l.b l.fn.waits;
-    }
-
-abbrev pub decreases-loop-b : goal.decreases-loop-b
-decreases-loop-b l = 8 - l.b
+abbrev pub invariant-loop-set : goal.invariant-loop-set
+invariant-loop-set l = l.waits ≡ take l.set-index (map (joined_by l.via l.k) l.fn.waits) ++ drop l.set-index l.fn.waits

@@ -1,44 +1,37 @@
--- At a part the partitions before it are in the set, and the parts from there on decide.
-use Rattle.std.proofs.Common.{◌≡◌, ℕ, [], ◌∷◌, refl, sym, ◌∙◌, inl, inr, arith}
-use denote.Enum.Declared.{tag_of}
-use types.Run.{OneOf}
-use Rattle.numbers.specs.declared.Natural.{Natural}
-use Rattle.numbers.specs.declared.Natural.TheVariants.{Value, Large, Unreadable}
-use Rattle.numbers.specs.contracts.Natural.{the_type}
-use Rattle.numbers.proofs.Parts.{end-high}
-use Rattle.text.proofs.SetReading.{joining-begins, joined-all, number_is, stopped, falling, joining-on}
+-- At a part the partitions before it are in the set, and the parts that are left decide.
+use Rattle.std.proofs.Common.{rules, tests, refl, sym, ap, ◌∙◌}
+use Rattle.std.specs.Result.{result_ok}
+use Rattle.refusal.proofs.Given.{not-given, was-given}
+use Rattle.numbers.proofs.Splits.{split-parts}
+use Rattle.text.specs.Partitions.{read_partitions}
+use Rattle.text.proofs.Numbers.{ok-natural}
+use Rattle.text.proofs.SetReading.{joined-all, stopped, falling, joining-on}
 use Rattle.text.proofs.read_partitions.Goals as goal
 
--- no number was read: the tag is one of the others
-others : (n : Natural) → ((c : ℕ) → n ≡ Value c → ⊥) → OneOf (1 ∷ 2 ∷ []) (tag_of the_type n)
-others (Value c) h = absurd (h c refl)
-others Large h = inl refl
-others Unreadable h = inr refl
+pub loop-part-init : goal.loop-part-init
+unfolding read_partitions
+loop-part-init c =
+    let split = c.split-part-items.ensures in
+    rw c.into_iter-part-iterator.ensures.into_iter_gives record {
+      left = _;
+      come = split-parts _ 58 c.args.text.now split.rest split.done split.closure (λ x b q k. search (rules, tests));
+      whole = refl;
+    }
 
-pub loop-at-init : goal.loop-at-init
-loop-at-init c = joining-begins _
-
-pub slice_bounds-read_natural-end : goal.slice_bounds-read_natural-end
-slice_bounds-read_natural-end c = end-high 58 _ _ _ c.loop-at-test.true c.part_end-end.ensures
-
-pub returns-in_default : goal.returns-in_default
-returns-in_default c =
-    stopped c.loop-at.invariant c.loop-at-test.true _ c.part_end-end.ensures _ c.read_natural.ensures (others _ c.in_default.not-Value)
+pub returns-in_err-c : goal.returns-in_err-c
+returns-in_err-c c =
+    let read = c.ok.ensures.value ∙ ap result_ok c.read_natural.ensures.value ∙ ok-natural 63 _ in
+    c.from_residual.ensures ∙ stopped c.loop-part.invariant c.next.new.self c.in-Some.part c.in-Some.ensures.steps (not-given _ (sym c.in_err-c.was ∙ read))
 
 pub returns-then-c-least : goal.returns-then-c-least
 returns-then-c-least c =
-    falling c.loop-at.invariant c.loop-at-test.true _ c.part_end-end.ensures _ (sym c.in-Value.is ∙ c.read_natural.ensures) c.if-c-least.true
+    let read = c.ok.ensures.value ∙ ap result_ok c.read_natural.ensures.value ∙ ok-natural 63 _ in
+    falling c.loop-part.invariant c.next.new.self c.in-Some.part c.in-Some.ensures.steps (was-given _ _ (sym c.in_ok-c.was ∙ read)) c.if-c-least.true
 
-pub with_bit-set-requires : goal.with_bit-set-requires
-with_bit-set-requires c = omega (arith, (number_is _ _ (sym c.in-Value.is ∙ c.read_natural.ensures)).1)
-
-pub overflow_add-least : goal.overflow_add-least
-overflow_add-least c = omega (arith, (number_is _ _ (sym c.in-Value.is ∙ c.read_natural.ensures)).1)
-
-pub loop-at-preserved : goal.loop-at-preserved
-loop-at-preserved c =
-    joining-on c.loop-at.invariant c.loop-at-test.true _ c.part_end-end.ensures _ (sym c.in-Value.is ∙ c.read_natural.ensures)
-    c.if-c-least.false _ c.with_bit-set.ensures
+pub loop-part-preserved : goal.loop-part-preserved
+loop-part-preserved c =
+    let read = c.ok.ensures.value ∙ ap result_ok c.read_natural.ensures.value ∙ ok-natural 63 _ in
+    joining-on c.loop-part.invariant c.next.new.self c.in-Some.part c.in-Some.ensures.steps (was-given _ _ (sym c.in_ok-c.was ∙ read)) c.if-c-least.false c.with_bit-set.ensures
 
 pub returns : goal.returns
-returns c = joined-all c.loop-at.invariant (omega (arith, c.loop-at-test.false))
+returns c = joined-all c.loop-part.invariant c.next.new.self c.in-None.ensures.steps

@@ -1,36 +1,41 @@
 -- After the first field, each turn writes a comma and a field; what is written from there on completes the list.
-use Rattle.std.proofs.Common.{arith}
-use Rattle.numbers.proofs.Placing.{first-room, written-rest, written_none}
-use Rattle.text.proofs.Rendering.{fields-none, comma-room, field_room, more-on, more-done, begin-room, more-begin, fields-written}
+use Rattle.std.proofs.Common.{[], ◌∷◌, ◌∙◌}
+use Rattle.numbers.proofs.Placed.{begun-as, part_room, part-done}
+use Rattle.text.specs.Fields.{render_field}
+use Rattle.text.proofs.Rendering.{fields-none, fields-some, comma-left, field-left, written-all}
 use Rattle.text.proofs.render_fields.Goals as goal
 
-pub bounds-out-at : goal.bounds-out-at
-bounds-out-at c = first-room c.args.out.now _ _ _ _ (fields-none _ c.if-fields-eq0.true) c.requires
+pub place-requires : goal.place-requires
+place-requires c = part_room (45 ∷ []) [] (begun-as (fields-none _ c.in_default.ensures.cases) c.requires)
 
-pub returns-then-fields-eq0 : goal.returns-then-fields-eq0
-returns-then-fields-eq0 c =
-    written-rest c.args.out.now _ _ _ _ (fields-none c.args.fields.now c.if-fields-eq0.true) c.requires (written_none _ _)
+pub returns-in_default-clause-written : goal.returns-in_default-clause-written
+returns-in_default-clause-written c = (begun-as (fields-none _ c.in_default.ensures.cases) c.requires).completes _ _ c.place.ensures.written
 
-pub render_field-end-requires : goal.render_field-end-requires
-render_field-end-requires c = begin-room c.args.fields.now c.args.out.now _ c.if-fields-eq0.false c.requires
+pub render_field-requires : goal.render_field-requires
+render_field-requires c = part_room (render_field c.in-Some.first.now) _ (begun-as (fields-some _ _ _ c.in-Some.ensures.cases.0) c.requires)
 
-pub loop-i-init : goal.loop-i-init
-loop-i-init c = more-begin _ _ _ c.if-fields-eq0.false c.requires _ _ c.render_field-end.ensures
+pub loop-w-init : goal.loop-w-init
+loop-w-init c = record {
+  left = part-done (render_field c.in-Some.first.now) _ (begun-as (fields-some _ _ _ c.in-Some.ensures.cases.0) c.requires) c.render_field.ensures.written;
+  len = c.render_field.ensures.len;
+  same_reference = c.render_field.ensures.same_reference;
+}
 
-pub bounds-out-end : goal.bounds-out-end
-bounds-out-end c = comma-room c.loop-i.invariant c.loop-i-test.true
+pub place-requires-in-loop-w : goal.place-requires-in-loop-w
+place-requires-in-loop-w c = part_room (44 ∷ []) _ (comma-left c.in-Some.others.now c.loop-w.w-index c.loop-w.invariant.left c.loop-w-test.true)
 
-pub overflow_add-end : goal.overflow_add-end
-overflow_add-end c = omega (arith, comma-room c.loop-i.invariant c.loop-i-test.true)
+pub render_field-requires-in-loop-w : goal.render_field-requires-in-loop-w
+render_field-requires-in-loop-w c =
+    part_room (render_field _) _ (field-left c.in-Some.others.now c.loop-w.w-index c.loop-w.invariant.left c.loop-w-test.true c.place-in-loop-w.ensures.written)
 
-pub render_field-end-requires-in-loop-i : goal.render_field-end-requires-in-loop-i
-render_field-end-requires-in-loop-i c = field_room c.loop-i.invariant c.loop-i-test.true
+pub loop-w-preserved : goal.loop-w-preserved
+loop-w-preserved c = record {
+  left = part-done (render_field _) _
+      (field-left c.in-Some.others.now c.loop-w.w-index c.loop-w.invariant.left c.loop-w-test.true c.place-in-loop-w.ensures.written)
+      c.render_field-in-loop-w.ensures.written;
+  len = c.render_field-in-loop-w.ensures.len ∙ c.place-in-loop-w.ensures.len ∙ c.loop-w.invariant.len;
+  same_reference = c.render_field-in-loop-w.ensures.same_reference ∙ c.place-in-loop-w.ensures.same_reference ∙ c.loop-w.invariant.same_reference;
+}
 
-pub loop-i-preserved : goal.loop-i-preserved
-loop-i-preserved c =
-    let f = c.render_field-end-in-loop-i in more-on c.loop-i.invariant c.loop-i-test.true _ _ f.ensures f.auto.out
-
-pub returns : goal.returns
-returns c =
-    fields-written c.args.fields.now _ _ c.if-fields-eq0.false c.requires _ _ c.render_field-end.ensures _ _
-    (more-done c.loop-i.invariant c.loop-i-test.false)
+pub returns-clause-written : goal.returns-clause-written
+returns-clause-written c = written-all _ _ c.loop-w.invariant.left c.loop-w-test.false

@@ -1,7 +1,7 @@
--- `render_unreadable` meets its contract: its three parts are written one after another, and after each one the parts
--- that are left still complete the text.
-use Rattle.std.proofs.Common.{◌≤◌, length, ℕ, List, [], ◌∷◌, ◌++◌}
+-- Its three parts are written one after another, and after each one the parts that are left still complete the text.
+use Rattle.std.proofs.Common.{◌≤◌, length, arith, ℕ, List, [], ◌∷◌, ◌++◌}
 use Rattle.numbers.specs.Numbers.{decimal}
+use Rattle.numbers.specs.Written.{Written}
 use Rattle.numbers.proofs.Placed.{Unfinished, begun-front, part_room, part-done}
 use Rattle.session.specs.Transcript.{unreadable}
 use Rattle.session.proofs.replies.render_unreadable.Goals as goal
@@ -14,24 +14,28 @@ line_text = 108 ∷ 105 ∷ 110 ∷ 101 ∷ 32 ∷ []
 abbrev rest_text : List ℕ
 rest_text = 32 ∷ 117 ∷ 110 ∷ 114 ∷ 101 ∷ 97 ∷ 100 ∷ 97 ∷ 98 ∷ 108 ∷ 101 ∷ 10 ∷ []
 
-start : (n : ℕ) (out : List ℕ) → length (unreadable n) ≤ length out
-    → Unfinished out 0 (unreadable n) out 0 (line_text ++ (decimal n ++ rest_text))
-unfolding unreadable
-start n out h = begun-front _ _ h
+module _ (n : ℕ) {out : List ℕ} (h : length (unreadable n) ≤ length out) where
+  start : Unfinished out 0 (unreadable n) out 0 (line_text ++ (decimal n ++ rest_text))
+  unfolding unreadable
+  start = begun-front _ _ h
 
-pub place-a-requires : goal.place-a-requires
-place-a-requires c = part_room line_text _ (start _ _ c.requires)
+  worded : {a : List ℕ} {i : ℕ} → Written out 0 line_text a i → Unfinished out 0 (unreadable n) a i (decimal n ++ rest_text)
+  worded v = part-done line_text _ start v
 
-pub render_decimal-b-requires : goal.render_decimal-b-requires
-render_decimal-b-requires c =
-    let line = part-done line_text _ (start _ _ c.requires) c.place-a.ensures in part_room (decimal c.args.number) rest_text line
+  module _ {a : List ℕ} {i : ℕ} (v : Written out 0 line_text a i) where
+    numbered : {b : List ℕ} {j : ℕ} → Written a i (decimal n) b j → Unfinished out 0 (unreadable n) b j rest_text
+    numbered w = part-done (decimal n) _ (worded v) w
 
 pub place-requires : goal.place-requires
-place-requires c =
-    let line = part-done line_text _ (start _ _ c.requires) c.place-a.ensures in
-    (part-done (decimal c.args.number) rest_text line c.render_decimal-b.ensures).room
+place-requires c = part_room line_text _ (start _ c.requires)
+
+pub decimal-requires : goal.decimal-requires
+decimal-requires c = part_room (decimal c.args.number) rest_text (worded _ c.requires c.place.ensures.written)
+
+pub place-requires-2 : goal.place-requires-2
+place-requires-2 c = (numbered _ c.requires c.place.ensures.written c.decimal.ensures.written).room
 
 pub returns : goal.returns
 returns c =
-    let line = part-done line_text _ (start _ _ c.requires) c.place-a.ensures in
-    (part-done (decimal c.args.number) rest_text line c.render_decimal-b.ensures).completes _ _ c.place.ensures
+    let w = (numbered _ c.requires c.place.ensures.written c.decimal.ensures.written).completes _ _ c.place-2.ensures.written in
+    record { bytes = grind (arith, w.bytes); ends = w.ends }
