@@ -43,7 +43,7 @@ def exists(name):
     if "/" in name:
         return pathlib.Path(name).exists()
     if "::" in name:
-        crate, function = name.split("::")
+        crate, *_, function = name.split("::")
         return any(re.search(rf"\bfn {function}[(<]", path.read_text()) for path in pathlib.Path("crates", crate, "src").glob("**/*.rt"))
     return any(re.search(rf"^pub {name} :", path.read_text(), re.M) for path in pathlib.Path("crates").glob("*/proofs/*.antt"))
 

@@ -6,11 +6,12 @@ ghost use Rattle.rules.specs.Lists.{all};
 ghost use Rattle.rules.specs.Words.{row_start, decode, is_zero, holdings_ok};
 ghost use Rattle.audit.specs.Audited.{audited, AfterRows};
 
-// S6 to S8 of n live rows: how many of them each writer has, if they are sound. A row is a slice where it is used, and each test below
-// a `for`: the boards' build takes no array made of a slice, no slice handed out and no iterator's Option of a reference (board/module.py).
-fn charges(space: &[u64], n: u32) -> Option<[u32; 8]>
+// S6 to S8 of n live rows: how many of them the party has, if they are sound. Each writer's are counted here and not handed out, so that
+// a call keeps them on its stack once. A row is a slice where it is used, and each test below a `for`: the boards' build takes no array
+// made of a slice, no slice handed out and no iterator's Option of a reference (board/module.py).
+fn charge_of(space: &[u64], n: u32, party: u32) -> Option<u32>
     requires { (length space.now ≡ 1809) × (n ≤ 128) × (n ≡ get_or space.now 0 0) }
-    ensures { AfterRows result space.now }
+    ensures { AfterRows result party space.now }
 {
     let mut charges = [0u32; 8];
     for r in 0..n {
@@ -26,7 +27,8 @@ fn charges(space: &[u64], n: u32) -> Option<[u32; 8]>
         }
         *charge += 1;
     }
-    Some(charges)
+    // whoever asks for a party above 7 makes no use of the answer
+    Some(charges[(party % 8) as usize])
 }
 
 // S4, S5: the eight key words.
@@ -73,12 +75,12 @@ pub fn audit(space: &[u64], party: u32) -> Option<u32>
     if !holdings_ok(space) {
         return None;
     }
-    let charges = charges(space, n)?;
+    let charge = charge_of(space, n, party)?;
     if !rest_ok(space, n) {
         return None;
     }
     if 7 < party {
         return Some(0);
     }
-    Some(charges[party as usize])
+    Some(charge)
 }

@@ -1,26 +1,27 @@
--- The words of an opening: a function of each word, the roster's words put in, and the part past them cleared.
+-- The words of an opening: a function of each word, two parts put one after the other into a list, and the part past them cleared.
 use Prim.Native.Nat.{ℕ, zero, suc, ◌+◌, ◌-◌, ◌≤◌, ◌<◌}
-use mathlib.Core.Path.{◌≡◌, refl, sym, ap, ◌∙◌}
+use mathlib.Core.Path.{◌≡◌, refl, ap, ◌∙◌}
 use mathlib.Core.List.{List, [], ◌∷◌, ◌++◌, map, append_assoc, append-nil}
 use native.Mathlib.Omega.{arith}
-use native.Mathlib.Numerals.{add-one}
 use native.Mathlib.Nat.{le_of_suc-le-suc}
-use borrow.Rule.Slice.PartMut.{put_mid}
-use lib.ListN.{length, take, drop, get_or, set, length-take, length-drop, drop_of_length-le, take-append-drop}
-use lib.Seq.{take_at, drop_at}
+use lib.ListN.{length, take, drop, get_or, set, length-append, length-take, length-drop, drop_of_length-le}
+use lib.Seq.{take_at, drop_at, drop-drop}
 use Rattle.rules.specs.Words.{zeros}
-use Rattle.rules.proofs.Rows.{length-zeros}
 
--- a turn that maps one word more of a list in its place
-map-next : (f : ℕ → ℕ) (d : List ℕ) (i : ℕ) → i < length d
-    → set (map f (take i d) ++ drop i d) i (f (get_or (map f (take i d) ++ drop i d) i 0)) ≡ map f (take (suc i) d) ++ drop (suc i) d
-map-next f [] i h = absurd (omega arith)
-map-next f (x ∷ xs) zero h = refl
-map-next f (x ∷ xs) (suc i) h = ap (λ (l : List ℕ). f x ∷ l) (map-next f xs i (le_of_suc-le-suc h))
+-- a word of the mapped list
+pub at_map : (f : ℕ → ℕ) (l : List ℕ) (i : ℕ) → i < length l → f (get_or l i 0) ≡ get_or (map f l) i 0
+at_map f [] i h = absurd (omega arith)
+at_map f (x ∷ xs) zero h = refl
+at_map f (x ∷ xs) (suc i) h = at_map f xs i (le_of_suc-le-suc h)
 
-pub map_more : (f : ℕ → ℕ) (d p : List ℕ) (i v : ℕ) → p ≡ map f (take i d) ++ drop i d → v ≡ f (get_or p i 0) → i < length d
-    → set p i v ≡ map f (take (i + 1) d) ++ drop (i + 1) d
-map_more f d p i v h e l = rw (e, h, add-one) (map-next f d i l)
+-- two parts put into a list, one after the other. The counts are variables, since at numerals `take` and `drop` compute and `rw` finds nothing
+pub mid-mid : (z a b : List ℕ) (i k m : ℕ) → i ≤ length z → length a ≡ k
+    → take (i + k) (take i z ++ (a ++ drop k (drop i z))) ++ (b ++ drop m (drop (i + k) (take i z ++ (a ++ drop k (drop i z)))))
+    ≡ (take i z ++ a) ++ (b ++ drop m (drop k (drop i z)))
+mid-mid z a b i k m h e =
+    let len : length (take i z ++ a) ≡ i + k = simp (length-append, length-take) (omega arith) in
+    let rest : List ℕ = drop k (drop i z) in
+    rw (← append_assoc (take i z) a rest, take_at (take i z ++ a) rest (i + k) len, drop_at (take i z ++ a) rest (i + k) len)
 
 -- the n words from k on, which are the last, cleared as the part of the space that is lent
 pub past-cleared : (s z : List ℕ) (k n : ℕ) {at end : ℕ} → at ≡ k → end ≡ k + n → length s ≡ k + n → z ≡ zeros (length (take (end - at) (drop at s)))
@@ -35,16 +36,8 @@ past-cleared s z k n from to len e =
     ∙ rw (drop_of_length-le (drop k s) none, append-nil z)
     (cleared ∙ ap zeros size))
 
--- the roster's words past the count, then the bit in the last eight of them, on a space whose rows are cleared
-pub on-cleared : (z roster : List ℕ) (f : ℕ → ℕ) → length roster ≡ 16 → drop 17 z ≡ zeros 1792
-    → set (put_mid 9 8 (put_mid 1 16 z roster) (map f (take 8 (drop 9 (put_mid 1 16 z roster))))) 0 0
-    ≡ 0 ∷ (take 8 roster ++ (map f (drop 8 roster) ++ zeros 1792))
-on-cleared [] roster f e h = let none : ◌≡◌ {A = ℕ} 0 1792 = ap length h ∙ length-zeros 1792 in absurd (omega (arith, none))
-on-cleared (x ∷ xs) roster f e h =
-    let p : List ℕ = take 8 roster in
-    let k : List ℕ = drop 8 roster in
-    let lp : length p ≡ 8 = simp length-take (omega arith) in
-    let lk : length k ≡ 8 = simp length-drop (omega arith) in
-    let words : roster ++ drop 16 xs ≡ p ++ (k ++ zeros 1792) =
-    rw h (ap (λ (r : List ℕ). r ++ zeros 1792) (sym (take-append-drop 8 roster)) ∙ append_assoc p k (zeros 1792)) in
-    rw (words, take_at p (k ++ zeros 1792) 8 lp, drop_at p (k ++ zeros 1792) 8 lp, take_at k (zeros 1792) 8 lk, drop_at k (zeros 1792) 8 lk) refl
+-- the two parts and the count, on a space whose rows are cleared
+pub on-cleared : (z a b : List ℕ) → 1 ≤ length z → drop 17 z ≡ zeros 1792
+    → set ((take 1 z ++ a) ++ (b ++ drop 8 (drop 8 (drop 1 z)))) 0 0 ≡ 0 ∷ (a ++ (b ++ zeros 1792))
+on-cleared [] a b h e = absurd (omega arith)
+on-cleared (x ∷ xs) a b h e = ap (λ (l : List ℕ). 0 ∷ (a ++ (b ++ l))) (drop-drop 8 8 xs ∙ e)

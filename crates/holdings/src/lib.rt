@@ -32,18 +32,18 @@ pub fn hold_names(space: &mut [u64], party: usize, fields: &[u64])
     }
 }
 
-// C1: each word, with the bit set.
-fn with_all(keys: &mut [u64], c: u64)
-    requires { c < 64 }
-    ensures { keys.new ≡ map (λ w. with_bit w c) keys.old }
+// C1: each word of the source, with the bit set.
+fn with_all(src: &[u64], dst: &mut [u64], c: u64)
+    requires { (length src.now ≡ length dst.old) × (c < 64) }
+    ensures { dst.new ≡ map (λ w. with_bit w c) src.now }
 {
-    for w in keys {
-        *w = words::with_bit(*w, c);
+    for i in 0..src.len() {
+        dst[i] = words::with_bit(src[i], c);
     }
 }
 
-// C1: no entries, the roster's holdings, whose words stand as in the space, and key 0 for everyone. Only the rows are cleared,
-// since every other word is written. By `edits`: the boards' build takes no copy by the library (board/module.py).
+// C1: no entries, the roster's holdings, and key 0 for everyone. Only the rows are cleared; each word before them is written
+// once, the partitions by `edits`, since the boards' build takes no copy by the library (board/module.py).
 pub fn fill(space: &mut [u64], roster: &[u64])
     requires { (length space.old ≡ 1809) × (length roster.now ≡ 16) }
     ensures { space.new ≡ encode (opened roster.now) }
@@ -51,7 +51,7 @@ pub fn fill(space: &mut [u64], roster: &[u64])
     let rows = starts::start(0) as usize;
     let end = starts::END as usize;
     edits::clear(&mut space[rows..end]);
-    edits::copy_in(roster, &mut space[1..17]);
-    with_all(&mut space[9..17], 31);
+    edits::copy_in(&roster[0..8], &mut space[1..9]);
+    with_all(&roster[8..16], &mut space[9..17], 31);
     space[0] = 0;
 }

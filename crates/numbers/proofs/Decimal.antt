@@ -1,6 +1,6 @@
 -- The decimal digits of a number: the last digit, and the digits of a tenth before it.
 use Prim.Native.Nat.{ℕ, zero, suc, ◌+◌, ◌/◌, ◌%◌, ◌≤◌, ◌<◌}
-use mathlib.Core.Path.{◌≡◌, ap}
+use mathlib.Core.Path.{◌≡◌, ap, ◌∙◌}
 use mathlib.Core.Logic.{◌⊎◌, inl, inr}
 use mathlib.Core.Bool.{true, false}
 use mathlib.Core.List.{List, [], ◌∷◌, ◌++◌}
@@ -8,10 +8,10 @@ use native.Mathlib.Omega.{arith}
 use borrow.Author.Tests.{lt-ltb, le-ltb, ltb-true, ltb-false}
 use lib.Dec.{ltb}
 use Rattle.rules.proofs.ListLaws.{bool}
-use lib.ListN.{length, length-append}
+use lib.ListN.{length, set, length-append}
 use Rattle.numbers.specs.Numbers.{digits, decimal}
 use Rattle.numbers.specs.Written.{Written}
-use Rattle.numbers.proofs.Placed.{Unfinished, begun-as, part-done}
+use Rattle.numbers.proofs.Placing.{length-placed, written_byte, written_on}
 
 pub tenth-less : (v : ℕ) → 10 ≤ v → v / 10 < v
 tenth-less v h = omega arith
@@ -54,21 +54,25 @@ by-tenths P small more v = within (suc v) v (omega arith)
 
 -- ---- how the digits are written
 
+pub small-room : (v at n : ℕ) → v < 10 → at + length (decimal v) ≤ n → at < n
+small-room v at n h room = let e : length (decimal v) ≡ 1 = rw (decimal-small v h) in omega arith
+
 pub more-length : (v : ℕ) → 10 ≤ v → length (decimal v) ≡ length (decimal (v / 10)) + 1
 more-length v h = rw (decimal-more v h) (length-append (decimal (v / 10)) ((48 + v % 10) ∷ []))
 
-module _ (v : ℕ) (out : List ℕ) (at : ℕ) (room : at + length (decimal v) ≤ length out) where
-  pub tenth-room : 10 ≤ v → at + length (decimal (v / 10)) ≤ length out
-  tenth-room h = let e = more-length v h in omega arith
+pub written_small : (v : ℕ) (out : List ℕ) (at : ℕ) → v < 10 → at + length (decimal v) ≤ length out → Written out at (decimal v) (set out at (48 + v)) (at + 1)
+written_small v out at h room = rw (decimal-small v h) (written_byte out at (48 + v) (small-room v at (length out) h room))
 
-  -- the last digit is left to write, and nothing else
-  abbrev pub LastLeft : List ℕ → ℕ → Type 0
-  LastLeft now end = Unfinished out at (decimal v) now end ((48 + v % 10) ∷ [])
+module _ (v : ℕ) (out : List ℕ) (at : ℕ) (h : 10 ≤ v) (room : at + length (decimal v) ≤ length out) where
+  pub tenth-room : at + length (decimal (v / 10)) ≤ length out
+  tenth-room = let e = more-length v h in omega arith
 
-  pub last-left : 10 ≤ v → {mid : List ℕ} {end : ℕ} → Written out at (decimal (v / 10)) mid end → LastLeft mid end
-  last-left h w = part-done (decimal (v / 10)) ((48 + v % 10) ∷ []) (begun-as (decimal-more v h) room) w
+  module _ (mid : List ℕ) (end : ℕ) (w : Written out at (decimal (v / 10)) mid end) where
+    pub last-room : end < length mid
+    last-room =
+        let e = more-length v h in
+        let l : length mid ≡ length out = ap length w.bytes ∙ length-placed out at (decimal (v / 10)) tenth-room in
+        omega (arith, w.ends)
 
-  pub only-left : v < 10 → LastLeft out at
-  only-left h =
-      let e : v % 10 ≡ v = omega arith in
-      rw e (begun-as (decimal-small v h) room)
+    pub written-more : Written out at (decimal v) (set mid end (48 + v % 10)) (end + 1)
+    written-more = rw (decimal-more v h) (written_on tenth-room w (written_byte mid end (48 + v % 10) last-room))

@@ -1,12 +1,13 @@
 -- Bytes written one part after another.
-use Prim.Native.Nat.{ℕ, ◌+◌, ◌-◌, ◌≤◌}
+use Prim.Native.Nat.{ℕ, ◌+◌, ◌-◌, ◌≤◌, ◌<◌}
 use mathlib.Core.Path.{◌≡◌, refl, sym, ap, ◌∙◌}
-use mathlib.Core.List.{List, [], ◌++◌, append_assoc}
+use mathlib.Core.List.{List, [], ◌∷◌, ◌++◌, append_assoc}
 use native.Mathlib.Nat.{add_assoc}
+use native.Mathlib.Numerals.{add-one}
 use native.Mathlib.Omega.{arith}
 use borrow.Rule.Slice.PartMut.{put_mid}
-use lib.ListN.{length, take, drop, length-append, length-take, length-drop, take-append-drop}
-use lib.Seq.{take_at, drop_at, drop-drop}
+use lib.ListN.{length, set, take, drop, length-append, length-take, length-drop, take-append-drop}
+use lib.Seq.{set_split, take_at, drop_at, drop-drop}
 use Rattle.numbers.specs.Written.{placed, Written}
 
 opened : (out : List ℕ) (at : ℕ) (xs : List ℕ) → placed out at xs ≡ take at out ++ (xs ++ drop (at + length xs) out)
@@ -47,6 +48,11 @@ unfolding placed
 written_slice out at bs =
     let e : at + length bs - at ≡ length bs = omega arith in
     record { bytes = rw (e, drop-drop (length bs) at out) refl; ends = refl }
+
+-- one byte
+pub written_byte : (out : List ℕ) (at b : ℕ) → at < length out → Written out at (b ∷ []) (set out at b) (at + 1)
+unfolding placed
+written_byte out at b h = record { bytes = set_split out at b h ∙ rw add-one; ends = refl }
 
 -- a part, and then a part from its end on
 pub written_on : {out : List ℕ} {at : ℕ} {xs ys mid after : List ℕ} {next end : ℕ} → at + length xs ≤ length out

@@ -1,6 +1,5 @@
 -- The readers' answers, as what the definitions give.
-use Rattle.std.specs.Prelude.{Bool, ◌&&◌, cond, ℕ, ◌+◌, ◌-◌, ◌*◌, leb, ℤ, pos, negsuc, Some, None, Result, Ok, Err}
-use Rattle.std.specs.Prelude as code
+use Rattle.std.specs.Prelude.{Bool, ◌&&◌, cond, ℕ, ◌+◌, ◌-◌, ◌*◌, leb, ℤ, pos, negsuc, Result, Ok, Err}
 use Rattle.std.proofs.Math.Option.{Option, none, some}
 use Rattle.std.specs.Int.Signed.{le_z}
 use Rattle.numbers.specs.declared.NumberError.{NumberError}

@@ -135,6 +135,21 @@ pub fn lines_start<'a>(text: &'a [u8], most: usize, names: &[u8]) -> Option<&'a 
     if same(first, names) { Some(rest) } else { None }
 }
 
+// T5: the digits of a tenth, and then the last digit. The place is handed from digit to digit: kept in an `Out` in memory, as it was
+// tried, a card's numbers took twice the instructions.
+fn write_decimal(v: u64, bytes: &mut [u8], at: usize) -> usize
+    requires { at + length (decimal v) ≤ length bytes.old }
+    ensures { Written bytes.old at (decimal v) bytes.new result }
+{
+    if v < 10 {
+        bytes[at] = b'0' + v as u8;
+        return at + 1;
+    }
+    let end = write_decimal(v / 10, bytes, at);
+    bytes[end] = b'0' + (v % 10) as u8;
+    end + 1
+}
+
 // Lent bytes, and how far they are written.
 #[derive(Drop)]
 pub struct Out<'a> {
@@ -155,17 +170,14 @@ impl Out<'_> {
         self.at = end;
     }
 
-    // T5: the digits of a tenth, and then the last digit.
+    // T5
     pub fn decimal(&mut self, v: u64)
         requires { self.old.at + length (decimal v) ≤ length self.old.bytes.now }
         ensures written { Written self.old.bytes.now self.old.at (decimal v) self.new.bytes.now self.new.at }
         ensures len { length self.new.bytes.now ≡ length self.old.bytes.now }
         ensures same_reference { self.new.bytes.ghost_name ≡ self.old.bytes.ghost_name }
     {
-        if 10 <= v {
-            self.decimal(v / 10);
-        }
-        self.place(&[b'0' + (v % 10) as u8]);
+        self.at = write_decimal(v, self.bytes, self.at);
     }
 
     // T5: a stored key, as the key that it stands for.
@@ -183,6 +195,18 @@ impl Out<'_> {
         }
     }
 
+    // D7, O8: the line of a refusal with that number, whichever it is.
+    pub fn refusal_number(&mut self, n: u32)
+        requires { self.old.at + length (refusal_text n) ≤ length self.old.bytes.now }
+        ensures written { Written self.old.bytes.now self.old.at (refusal_text n) self.new.bytes.now self.new.at }
+        ensures len { length self.new.bytes.now ≡ length self.old.bytes.now }
+        ensures same_reference { self.new.bytes.ghost_name ≡ self.old.bytes.ghost_name }
+    {
+        self.place(b"no");
+        self.decimal(n as u64);
+        self.place(b"\n");
+    }
+
     // D7, O8
     pub fn refusal(&mut self, r: Refusal)
         requires { self.old.at + length (refusal_text (number r)) ≤ length self.old.bytes.now }
@@ -190,8 +214,6 @@ impl Out<'_> {
         ensures len { length self.new.bytes.now ≡ length self.old.bytes.now }
         ensures same_reference { self.new.bytes.ghost_name ≡ self.old.bytes.ghost_name }
     {
-        self.place(b"no");
-        self.decimal(r.number() as u64);
-        self.place(b"\n");
+        self.refusal_number(r.number());
     }
 }

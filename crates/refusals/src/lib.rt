@@ -18,6 +18,7 @@ use refusal::Refusal;
 use words::Pair;
 
 // R1 to R8, R13, R14
+#[tactic(auto, using(crate::proofs::Steps::put_steps))]
 pub fn of_put(
     space: &[u64],
     party: u32,
@@ -42,6 +43,7 @@ pub fn of_put(
 }
 
 // R1 to R7, R13, R14: where the call passes, whether its template has bounds, which the search has to know.
+#[tactic(auto, using(crate::proofs::Steps::seek_steps))]
 pub fn of_seek(
     space: &[u64],
     party: u32,

@@ -98,6 +98,7 @@ pub fn set_up(
 ) -> Result<(), Refusal>
     requires { out.old.at + 8208 ≤ length out.old.bytes.now }
     ensures written { Written out.old.bytes.now out.old.at (output file.now) out.new.bytes.now out.new.at }
+    ensures len { length out.new.bytes.now ≡ length out.old.bytes.now }
     ensures set_up_by { SetUpBy (read_file file.now) result roster.old roster.new space.old space.new }
     ensures same_reference { out.new.bytes.ghost_name ≡ out.old.bytes.ghost_name }
 {

@@ -93,7 +93,7 @@ pub fn take(
     let Some(row) = obtain(space, Op::Taking, party, pair, fields, res)? else {
         return Ok(None);
     };
-    edits::remove_row(space, row);
+    edits::remove_row(space, row as usize);
     Ok(Some(fields.len()))
 }
 
@@ -105,7 +105,7 @@ fn obtain(
     pair: Pair,
     fields: &[u64],
     res: &mut [u64],
-) -> Result<Option<usize>, Refusal>
+) -> Result<Option<u32>, Refusal>
     ensures value { numbered result ≡ sought_in space.old (place.meant op) party (meant pair) fields.now (length res.old) }
     ensures space_after { space.new ≡ granted (numbered result) party (length fields.now) space.old }
     ensures res_after { res.new ≡ written (numbered result) (length fields.now) space.old res.old }
@@ -125,7 +125,7 @@ fn seek(
     pair: Pair,
     fields: &[u64],
     res: &mut [u64],
-) -> Result<Option<usize>, Refusal>
+) -> Result<Option<u32>, Refusal>
     ensures value { numbered result ≡ sought_in space.now (place.meant op) party (meant pair) fields.now (length res.old) }
     ensures res_after { res.new ≡ written (numbered result) (length fields.now) space.now res.old }
 {
@@ -138,7 +138,7 @@ fn seek(
         return Ok(None);
     };
     copy_out(shared, row, fields.len(), res);
-    Ok(Some(row))
+    Ok(Some(row as u32))
 }
 
 // N4, N5: the key that the search looks for.

@@ -26,25 +26,25 @@ returns-then-not-holdings_ok c =
       sym c.if-not-holdings_ok.ensures,
     ) refl)
 
-pub returns-in_err-charges : goal.returns-in_err-charges
-returns-in_err-charges c = c.from_residual.ensures ∙ unsound-audited c.args.space.now c.args.party c.in_err-charges.ensures
+pub returns-in_err-charge : goal.returns-in_err-charge
+returns-in_err-charge c = c.from_residual.ensures ∙ unsound-audited c.args.space.now c.args.party c.in_err-charge.ensures
 
 pub returns-then-not-rest_ok : goal.returns-then-not-rest_ok
 returns-then-not-rest_ok c =
     let ws = c.args.space.now in
     unsound-audited ws c.args.party
-    (rest-decides ws _ c.if-space-ne1809.false c.if-live-gt128.false (sym c.if-not-holdings_ok.ensures) c.in_ok-charges.ensures ∙ sym c.if-not-rest_ok.ensures)
+    (rest-decides ws _ c.if-space-ne1809.false c.if-live-gt128.false (sym c.if-not-holdings_ok.ensures) c.in_ok-charge.ensures.1 ∙ sym c.if-not-rest_ok.ensures)
 
 pub returns-then-party-gt7 : goal.returns-then-party-gt7
 returns-then-party-gt7 c =
     let ws = c.args.space.now in
     none-audited ws c.args.party
-    (rest-decides ws _ c.if-space-ne1809.false c.if-live-gt128.false (sym c.if-not-holdings_ok.ensures) c.in_ok-charges.ensures ∙ sym c.if-not-rest_ok.ensures)
+    (rest-decides ws _ c.if-space-ne1809.false c.if-live-gt128.false (sym c.if-not-holdings_ok.ensures) c.in_ok-charge.ensures.1 ∙ sym c.if-not-rest_ok.ensures)
     c.if-party-gt7.true
 
 pub returns : goal.returns
 returns c =
     let ws = c.args.space.now in
     sound-audited ws c.args.party
-    (rest-decides ws _ c.if-space-ne1809.false c.if-live-gt128.false (sym c.if-not-holdings_ok.ensures) c.in_ok-charges.ensures ∙ sym c.if-not-rest_ok.ensures)
-    _ (c.in_ok-charges.ensures.charges c.args.party c.if-party-gt7.false)
+    (rest-decides ws _ c.if-space-ne1809.false c.if-live-gt128.false (sym c.if-not-holdings_ok.ensures) c.in_ok-charge.ensures.1 ∙ sym c.if-not-rest_ok.ensures)
+    _ (c.in_ok-charge.ensures.2 c.if-party-gt7.false ∙ c.in_ok-charge.ensures.1.charges c.args.party c.if-party-gt7.false)

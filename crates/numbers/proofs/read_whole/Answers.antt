@@ -1,5 +1,5 @@
 -- By whether a minus stands first: what is read then, and what it comes to with the minus.
-use Rattle.std.proofs.Common.{rules, ◌≡◌, Ok, Err, pos, neg_ℤ, to_z, of_z, w32, w64, ◌-ℤ◌, sym, refl, ap, ◌∙◌, arith}
+use Rattle.std.proofs.Common.{rules, ◌≡◌, Ok, Err, pos, neg_ℤ, to_z, of_z, w32, w64, ◌-ℤ◌, sym, ap, ◌∙◌, arith}
 use Rattle.std.proofs.lemmas.Int.{to_z-of_z}
 use Rattle.numbers.proofs.Signed.{positive_in, negative_in, plus-read, minus-read, after_minus, negative-some}
 use Rattle.numbers.proofs.read_whole.Goals as goal

@@ -1,6 +1,5 @@
 -- The first separator is where the loop is left.
-use Rattle.std.proofs.Common.{rules, ◌≡◌, [], ◌∷◌}
-use Rattle.numbers.specs.Parts.{parts}
+use Rattle.std.proofs.Common.{rules}
 use Rattle.numbers.proofs.NumbersBack.{no-separator, first-separator}
 use Rattle.numbers.proofs.split_once.Goals as goal
 

@@ -2,7 +2,7 @@
 use Rattle.std.proofs.lemmas.Result.{err_from_is_err_and}
 use Rattle.std.specs.Prelude.{Result, Ok, Err}
 use Rattle.words.specs.Pairs.{meant}
-use Rattle.std.proofs.Common.{◌≡◌, ℕ, ◌≤◌, ◌<◌, refl, sym, ap, ap₂, ◌∙◌, Bool, true, false, not, ◌||◌, List, [], ◌∷◌, ◌++◌, ℤ, drop, le-leb}
+use Rattle.std.proofs.Common.{◌≡◌, ℕ, ◌≤◌, ◌<◌, refl, sym, ap, ap₂, ◌∙◌, Bool, true, false, not, ◌||◌, List, [], ◌∷◌, ◌++◌, ℤ, drop, le-leb, arith}
 use Rattle.std.proofs.lemmas.Bool.{lt-leb}
 use Rattle.rules.specs.Lists.{all}
 use Rattle.rules.specs.Partitions.{sets}
@@ -16,7 +16,7 @@ use Rattle.rules.proofs.KeyLaws.{pair-in-range}
 use Rattle.held.specs.Verdicts.{verdict}
 use Rattle.held.proofs.Tables.{decides, leaves, passes}
 use Rattle.refusals.specs.Admissions.{first_tests, begun}
-use Rattle.refusals.proofs.Tables.{begin-decides, begin-leaves, first-decides, first-leaves, live-by, first-passed}
+use Rattle.refusals.proofs.Tables.{begin-leaves, first-decides, first-leaves, live-by, first-passed}
 use Rattle.refusals.proofs.of_put.Goals as goal
 
 -- a put, with its pairs r and t
@@ -60,10 +60,6 @@ module _ (ws : List ℕ) (who : ℕ) (r t : Pair ℤ) (fs : List ℕ) where
         past-5 : Past 5
         unfolding whole put_table
         past-5 v e = past-4 v (leaves _ 5 _ v (ap not (sym f)) e)
-
-        refused-names : (k : ℕ) → Err k ≡ verdict names → Err k ≡ verdict whole
-        unfolding whole put_table
-        refused-names k e = past-5 _ (begin-decides names (drop 8 whole) _ e)
 
         module _ (e : Ok tt ≡ verdict names) where
           past-8 : Past 8
@@ -110,22 +106,16 @@ put_names-requires c =
       f.2,
     )
 
-pub returns-in_err-put_names : goal.returns-in_err-put_names
-unfolding whole
-returns-in_err-put_names c =
-    let p = err_from_is_err_and c.from_residual-in_err-put_names.result c.from_residual-in_err-put_names.ensures.1 in
-    rw (p.1, p.2)
-    (refused-names _ _ _ _ _ _ c.in_ok-live.ensures (bad-pairs (meant c.args.read) (meant c.args.take) c.bad_pair.ensures c.bad_pair-2.ensures c.if-bad_pair.false)
-    c.if-not-put_fields.ensures _ c.in_err-put_names.ensures)
-
 pub returns-then-live-ge16 : goal.returns-then-live-ge16
 unfolding whole
 returns-then-live-ge16 c =
+    let held : Ok tt ≡ verdict (names c.args.space.now c.args.party (meant c.args.read) (meant c.args.take) c.args.fields.now) = grind arith in
     refused-8 _ _ _ _ _ _ c.in_ok-live.ensures (bad-pairs (meant c.args.read) (meant c.args.take) c.bad_pair.ensures c.bad_pair-2.ensures c.if-bad_pair.false) c.if-not-put_fields.ensures
-    c.in_ok-put_names.ensures c.if-live-ge16.true
+    held c.if-live-ge16.true
 
 pub returns : goal.returns
 unfolding whole
 returns c =
+    let held : Ok tt ≡ verdict (names c.args.space.now c.args.party (meant c.args.read) (meant c.args.take) c.args.fields.now) = grind arith in
     passed _ _ _ _ _ _ c.in_ok-live.ensures (bad-pairs (meant c.args.read) (meant c.args.take) c.bad_pair.ensures c.bad_pair-2.ensures c.if-bad_pair.false) c.if-not-put_fields.ensures
-    c.in_ok-put_names.ensures c.if-live-ge16.false
+    held c.if-live-ge16.false

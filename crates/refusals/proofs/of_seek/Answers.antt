@@ -2,7 +2,7 @@
 use Rattle.std.specs.Prelude.{Result, Ok, Err}
 use Rattle.std.proofs.lemmas.Result.{err_from_is_err_and}
 use Rattle.words.specs.Pairs.{meant}
-use Rattle.std.proofs.Common.{◌≡◌, ℕ, ◌≤◌, ◌<◌, refl, sym, ap, ◌∙◌, Bool, true, false, not, List, [], ◌∷◌, ◌++◌, ℤ, drop, length, lt-ltb, le-ltb}
+use Rattle.std.proofs.Common.{◌≡◌, ℕ, ◌≤◌, ◌<◌, refl, sym, ap, ◌∙◌, Bool, true, false, not, List, [], ◌∷◌, ◌++◌, ℤ, drop, length, lt-ltb, le-ltb, arith}
 use Rattle.rules.specs.Lists.{all}
 use Rattle.rules.specs.Partitions.{sets}
 use Rattle.rules.specs.Fields.{template_field}
@@ -15,7 +15,7 @@ use Rattle.words.specs.Kind.{plain}
 use Rattle.held.specs.Verdicts.{verdict}
 use Rattle.held.proofs.Tables.{decides, leaves, passes}
 use Rattle.refusals.specs.Admissions.{first_tests, begun, admitted_by}
-use Rattle.refusals.proofs.Tables.{begin-decides, begin-leaves, first-decides, first-leaves, live-by, first-passed}
+use Rattle.refusals.proofs.Tables.{begin-leaves, first-decides, first-leaves, live-by, first-passed}
 use Rattle.refusals.proofs.of_seek.Goals as goal
 
 -- a look, receive or take, with its pair p
@@ -65,10 +65,6 @@ module _ (ws : List ℕ) (who : ℕ) (p : Pair ℤ) (t : List ℕ) (room : ℕ) 
         unfolding whole seek_table
         past-5 v e = past-4 v (leaves _ 5 _ v (ap not (sym f)) e)
 
-        refused-names : (k : ℕ) → Err k ≡ verdict names → admits (Err k) ≡ admits (verdict whole)
-        unfolding whole seek_table
-        refused-names k e = past-5 _ (begin-decides names (drop 8 whole) _ e)
-
         module _ (e : Ok tt ≡ verdict names) where
           past-8 : Past 8
           unfolding whole seek_table
@@ -105,21 +101,15 @@ seek_names-requires c =
     let f = first-passed _ _ _ (live-by _ _ _ c.in_ok-first_tests.ensures).0 in
     (f.0, f.1, pair-in-range (meant c.args.pair) (sym c.if-bad_pair.ensures), f.2)
 
-pub returns-in_err-seek_names : goal.returns-in_err-seek_names
-unfolding whole
-returns-in_err-seek_names c =
-    let p = err_from_is_err_and c.from_residual-in_err-seek_names.result c.from_residual-in_err-seek_names.ensures.1 in
-    rw (p.1, p.2)
-    (refused-names _ _ _ _ _ _ c.in_ok-first_tests.ensures c.if-bad_pair.ensures c.if-not-fields_ok.ensures _ c.in_err-seek_names.ensures)
-
 pub returns-then-room-template : goal.returns-then-room-template
 unfolding whole
 returns-then-room-template c =
-    refused-6 _ _ _ _ _ _ c.in_ok-first_tests.ensures c.if-bad_pair.ensures c.if-not-fields_ok.ensures c.in_ok-seek_names.ensures
-    c.if-room-template.true
+    let held : Ok tt ≡ verdict (names c.args.space.now c.args.party (meant c.args.pair) c.args.template.now c.args.room) = grind arith in
+    refused-6 _ _ _ _ _ _ c.in_ok-first_tests.ensures c.if-bad_pair.ensures c.if-not-fields_ok.ensures held c.if-room-template.true
 
 pub returns : goal.returns
 unfolding whole
 returns c =
-    passed _ _ _ _ _ _ c.in_ok-first_tests.ensures c.if-bad_pair.ensures c.if-not-fields_ok.ensures c.in_ok-seek_names.ensures
+    let held : Ok tt ≡ verdict (names c.args.space.now c.args.party (meant c.args.pair) c.args.template.now c.args.room) = grind arith in
+    passed _ _ _ _ _ _ c.in_ok-first_tests.ensures c.if-bad_pair.ensures c.if-not-fields_ok.ensures held
     c.if-room-template.false _ c.plain_fields-bounded.ensures

@@ -1,6 +1,6 @@
 -- `seek` meets its contract: the verdict is the table's, the search by the stored co-key is the search by the pair, and
 -- the copied words are the found entry's fields.
-use Rattle.std.proofs.Common.{◌≡◌, ℕ, ℤ, ◌-◌, ◌≤◌, ◌<◌, sym, ap, ap₂, ◌∙◌, subst, Bool, true, not, List, ◌∷◌, ◌++◌, length, take, drop}
+use Rattle.std.proofs.Common.{◌≡◌, arith, ℕ, ℤ, ◌-◌, ◌≤◌, ◌<◌, sym, ap, ap₂, ◌∙◌, subst, Bool, true, not, List, ◌∷◌, ◌++◌, length, take, drop}
 use Rattle.std.proofs.Math.Option as rule
 use Rattle.std.proofs.Math.Seq.{take-length}
 use native.Mathlib.Nat.{sub-zero}
@@ -129,6 +129,16 @@ copy_out-requires c =
     copyable a.space.now (meant a.op) a.party (words.meant a.pair) a.fields.now a.res.now _ c.in_ok-bounded.ensures c.in-Some.row
     (placed a.space.now (meant a.op) a.party (words.meant a.pair) a.fields.now a.res.now _ c.in_ok-bounded.ensures _ _
     c.co_key_of-cokey.ensures c.in-Some.ensures)
+
+pub overflow_cast-result : goal.overflow_cast-result
+unfolding admitted table_of
+overflow_cast-result c =
+    let a = c.args in
+    let row =
+    found-low a.space.now (meant a.op) a.party (words.meant a.pair) a.fields.now a.res.now c.in-Some.row
+    (placed a.space.now (meant a.op) a.party (words.meant a.pair) a.fields.now a.res.now _ c.in_ok-bounded.ensures _ _
+    c.co_key_of-cokey.ensures c.in-Some.ensures) in
+    omega arith
 
 pub returns : goal.returns
 unfolding admitted table_of

@@ -1,7 +1,7 @@
 -- A good row's writer is a party, whose charge is one more; a bad row, or a seventeenth of one writer, decides.
-use Rattle.std.proofs.Common.{refl, sym, arith}
+use Rattle.std.proofs.Common.{ℕ, get_or, ap, refl, sym, arith}
 use Rattle.audit.proofs.Counting.{counting-none, counting_more, counting-done, lent-row, row-bad, too_many, writer-low}
-use Rattle.audit.proofs.charges.Goals as goal
+use Rattle.audit.proofs.charge_of.Goals as goal
 
 pub loop-r-init : goal.loop-r-init
 loop-r-init c = counting-none c.args.space.now _ refl
@@ -38,4 +38,6 @@ loop-r-preserved c =
     (sym c.if-not-row_ok.ensures) c.if-charge-ge16.false
 
 pub returns : goal.returns
-returns c = counting-done c.args.space.now c.loop-r.charges c.loop-r.r c.loop-r.invariant (omega arith)
+returns c =
+    let counts = c.loop-r.charges in
+    (counts, counting-done c.args.space.now counts c.loop-r.r c.loop-r.invariant (omega arith), λ l. ap (λ (p : ℕ). get_or counts p 0) (omega arith))

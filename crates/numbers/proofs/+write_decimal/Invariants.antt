@@ -1,0 +1,5 @@
+-- A number is written digit by digit, its tenth first: the measure is the number.
+use Rattle.numbers.proofs.+write_decimal.Given as goal
+
+abbrev pub decreases-write_decimal : goal.decreases-write_decimal
+decreases-write_decimal l = l.v
