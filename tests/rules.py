@@ -43,8 +43,10 @@ def exists(name):
     if "/" in name:
         return pathlib.Path(name).exists()
     if "::" in name:
-        crate, *_, function = name.split("::")
-        return any(re.search(rf"\bfn {function}[(<]", path.read_text()) for path in pathlib.Path("crates", crate, "src").glob("**/*.rt"))
+        crate, *owners, function = name.split("::")
+        wanted = [rf"\bfn {function}[(<]", *(rf"\bimpl\b[^{{]*\b{owner}\b" for owner in owners)]
+        sources = [path.read_text() for path in pathlib.Path("crates", crate, "src").glob("**/*.rt")]
+        return any(all(re.search(each, source) for each in wanted) for source in sources)
     return any(re.search(rf"^pub {name} :", path.read_text(), re.M) for path in pathlib.Path("crates").glob("*/proofs/*.antt"))
 
 
