@@ -1,8 +1,9 @@
 -- The audit's answers: soundness as the code's tests decide it, one after the other.
-use mathlib.Core.Path.{◌≡◌, refl, sym}
+use mathlib.Core.Path.{◌≡◌, refl, sym, ◌∙◌}
 use mathlib.Core.Bool.{true, false, and-true}
 use mathlib.Core.List.{List}
 use Prim.Native.Nat.{ℕ, ◌≤◌, ◌<◌}
+use native.Mathlib.Omega.{arith}
 use borrow.Author.Tests.{eq-eqb, le-leb}
 use lib.ListN.{length, get_or, drop}
 use Rattle.std.specs.Prelude.{Some, None}
@@ -10,11 +11,21 @@ use Rattle.rules.specs.Lists.{all}
 use Rattle.rules.specs.State.{live}
 use Rattle.rules.specs.Words.{row_start, decode, is_zero, holdings_ok, sound}
 use Rattle.rules.proofs.Back.{wf-decode, live-none}
-use Rattle.audit.specs.Audited.{audited, Counted}
+use Rattle.audit.specs.Audited.{audited, Counted, AfterRows, AfterRowsFor}
 
 pub unsound-audited : (ws : List ℕ) (who : ℕ) → sound ws ≡ false → None ≡ audited ws who
 unfolding audited
 unsound-audited ws who e = rw e
+
+-- what the eight parties are answered is what the pass finds
+pub all-answers : (ws counts : List ℕ) → ((who : ℕ) → who ≤ 7 → AfterRowsFor (Some (get_or counts who 0)) who ws) → AfterRows (Some counts) ws
+all-answers ws counts answered =
+    let first : Counted ws (answered 0 (omega arith)).0 = (answered 0 (omega arith)).1 in
+    record {
+      rows = first.rows;
+      limits = first.limits;
+      charges = λ who l. (answered who (omega arith)).2 l ∙ (answered who (omega arith)).1.charges who l;
+    }
 
 -- where all tests before the last pass, the words past the live rows decide
 pub rest-decides : (ws counts : List ℕ) → length ws ≡ 1809 → get_or ws 0 0 ≤ 128 → holdings_ok (decode ws) ≡ true → Counted ws counts

@@ -14,7 +14,12 @@ pub record Counted (ws counts : List ℕ) : Type 0 where
   pub limits : within_limits (decode ws) ≡ true
   pub charges : (who : ℕ) → who ≤ 7 → get_or counts who 0 ≡ live who (decode ws).entries
 
--- what the answer of the pass over the live rows says: the party's count of those, or that the space is not sound
-abbrev pub AfterRows : Option ℕ → ℕ → List ℕ → Type 0
-AfterRows (Some k) who ws = (counts : List ℕ) × Counted ws counts × (who ≤ 7 → k ≡ get_or counts who 0)
-AfterRows None who ws = sound ws ≡ false
+-- what the pass over the live rows finds: each writer's count of those, or that the space is not sound
+abbrev pub AfterRows : Option (List ℕ) → List ℕ → Type 0
+AfterRows (Some counts) ws = Counted ws counts
+AfterRows None ws = sound ws ≡ false
+
+-- what it answers to one party: the party's count of those, or that the space is not sound
+abbrev pub AfterRowsFor : Option ℕ → ℕ → List ℕ → Type 0
+AfterRowsFor (Some k) who ws = (counts : List ℕ) × AfterRows (Some counts) ws × (who ≤ 7 → k ≡ get_or counts who 0)
+AfterRowsFor None who ws = AfterRows None ws

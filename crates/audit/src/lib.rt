@@ -4,14 +4,14 @@
 ghost use Rattle.std.specs.Prelude.{◌≡◌, ◌≤◌, length, get_or, drop};
 ghost use Rattle.rules.specs.Lists.{all};
 ghost use Rattle.rules.specs.Words.{row_start, decode, is_zero, holdings_ok};
-ghost use Rattle.audit.specs.Audited.{audited, AfterRows};
+ghost use Rattle.audit.specs.Audited.{audited, AfterRowsFor};
 
 // S6 to S8 of n live rows: how many of them the party has, if they are sound. Each writer's are counted here and not handed out, so that
 // a call keeps them on its stack once. A row is a slice where it is used, and each test below a `for`: the boards' build takes no array
 // made of a slice, no slice handed out and no iterator's Option of a reference (board/module.py).
 fn charge_of(space: &[u64], n: u32, party: u32) -> Option<u32>
     requires { (length space.now ≡ 1809) × (n ≤ 128) × (n ≡ get_or space.now 0 0) }
-    ensures { AfterRows result party space.now }
+    ensures { AfterRowsFor result party space.now }
 {
     let mut charges = [0u32; 8];
     for r in 0..n {
